@@ -10,7 +10,7 @@ use Rattle.table.specs.Format.{Table, kind}
 use Rattle.table.specs.declared.kinds.Kind.{Kind}
 use Rattle.table.specs.declared.kinds.Kind.TheVariants.{End as end, Work as work, Alloc as alloc, Free as free, Fork as fork, Join as join, Unknown as unknown}
 use Rattle.schedule.specs.declared.Worker.{Worker}
-use Rattle.schedule.specs.Machine.{State, Stepped, drawn, stepped, with_list, released, held, ended, next_of, status_of, worker_of, nobody, counted}
+use Rattle.schedule.specs.Machine.{State, Stepped, drawn, stepped, with_list, released, ended, next_of, status_of, worker_of, nobody, counted}
 use Rattle.schedule.specs.Machine.{without, waits_for, parent_of, woken, act_by, act, leftmost, taken, turn_free, turn_of}
 use Rattle.array_machine.proofs.Parts.{turn_body}
 

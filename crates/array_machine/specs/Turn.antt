@@ -102,7 +102,7 @@ pub record Seat : Type 0 where
 abbrev pub seat : List ℕ → Worker → Seat
 seat status worker = record { status = status; worker = worker }
 
--- where t is the thread found, noThread if none is ready
+-- where t is the thread found, `no_thread` if none is ready
 unfoldable pub seat_of : ℕ → List ℕ → ℕ → Worker → Seat
 seat_of K status t worker =
     pick worker.holds (seat status worker)

@@ -6,14 +6,14 @@ ghost use Rattle.array_machine.specs.Turn.{next_fits, amount_fits};
 fn sum_fits(a: u64, b: u64) -> bool
     ensures { result ≡ amount_fits (a + b) }
 {
-    if u64::MAX - b < a { false } else { true }
+    a <= u64::MAX - b
 }
 
 // The number after an action's has 16 bits.
 pub fn next_fits(a: u16) -> bool
     ensures { result ≡ next_fits a }
 {
-    if a == u16::MAX { false } else { true }
+    a != u16::MAX
 }
 
 // What an alloc within the quota writes has its room.

@@ -80,7 +80,7 @@ no_number = 16777216
 abbrev pub is_digit : ℕ → Bool
 is_digit b = leb 48 b && leb b 57
 
--- the number of digits read so far, and one byte more; noNumber where it is too large or the byte is no digit
+-- the number of digits read so far, and one byte more; `no_number` where it is too large or the byte is no digit
 abbrev pub next_value : ℕ → ℕ → ℕ
 next_value v b = pick (is_digit b) (min no_number (10 * v + (b - 48))) no_number
 
@@ -92,7 +92,7 @@ value_from v (b ∷ w) = value_from (next_value v b) w
 abbrev pub zero_led : List ℕ → Bool
 zero_led w = ltb 1 (length w) && eqb (get_or w 0 0) 48
 
--- a word's number of at most 24 bits, in decimal as one writes it; noNumber where it is none
+-- a word's number of at most 24 bits, in decimal as one writes it; `no_number` where it is none
 unfoldable pub number_in : List ℕ → ℕ
 number_in w = pick (zero_led w) no_number (value_from 0 w)
 

@@ -72,11 +72,9 @@ pub fn turn(run: Run, w: u8) -> Turned
     ensures value { result ≡ turned_of run w }
     ensures answer_value { turning_values result.answer ≡ turn_values run w }
 {
-    let tested = test(run);
-    if !tested.passed {
+    let Some(parents) = test(run) else {
         return refused(32, run);
-    }
-    let parents = tested.parents;
+    };
     let length = run.length as usize;
     let table = run.table;
     let table = &table[..length];
@@ -169,11 +167,9 @@ fn stop_in(
 fn run_by(run: Run, order: &[u8], rounds: bool, limit: u32) -> Ran
     ensures { result ≡ pick rounds (rounds_run run limit) (list_run run order.now) }
 {
-    let tested = test(run);
-    if !tested.passed {
+    let Some(parents) = test(run) else {
         return unsound(run);
-    }
-    let parents = tested.parents;
+    };
     let length = run.length as usize;
     let table = run.table;
     let table = &table[..length];

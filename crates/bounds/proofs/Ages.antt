@@ -4,7 +4,6 @@ use Prim.Native.Nat.{ℕ, zero, suc, ◌+◌, ◌-◌, ◌*◌, ◌≤◌, ◌<�
 use mathlib.Core.List.{List, [], ◌∷◌, ◌++◌, append_assoc, reverse, reverse_aux, reverse_aux-eq}
 use mathlib.Core.List.Memᴰ
 use mathlib.Core.List.{Memᴰ}
-use mathlib.Core.Bool.{Bool, true, false}
 use mathlib.Core.Logic.{◌⊎◌, inl, inr}
 use native.Mathlib.Decide.{ℕ_discrete}
 use native.Mathlib.Nat.{mul-suc}
@@ -16,6 +15,7 @@ use Rattle.table.specs.Sum.{pick, sum_to}
 use Rattle.table.proofs.Sums.{sum_to_one}
 use Rattle.order.proofs.Totals.{sum_to_bound}
 use Rattle.schedule.specs.Memory.{count_in, Keeps}
+pub use Rattle.schedule.proofs.Occurrences.{count_in_append, count_in_own, count_in_other, count_in_length}
 
 -- the number of turns since the latest turn of w, of a row with the latest turn first; where w has had none, of all of them
 unfoldable pub age : List ℕ → ℕ → ℕ
@@ -35,19 +35,6 @@ age_other past v w d = rw (ne_eqb v w d)
 pub count_in_nil : (v : ℕ) → count_in v [] ≡ 0
 unfolding count_in
 count_in_nil v = refl
-
-pub count_in_append : (v : ℕ) (a c : List ℕ) → count_in v (a ++ c) ≡ count_in v a + count_in v c
-unfolding count_in
-count_in_append v [] c = omega arith
-count_in_append v (w ∷ a) c = omega (arith, count_in_append v a c)
-
-pub count_in_own : (w : ℕ) (l : List ℕ) → count_in w (w ∷ l) ≡ suc (count_in w l)
-unfolding count_in
-count_in_own w l = rw (eq-eqb w w refl) (omega arith)
-
-pub count_in_other : (v w : ℕ) (l : List ℕ) → (w ≡ v → ⊥) → count_in v (w ∷ l) ≡ count_in v l
-unfolding count_in
-count_in_other v w l d = rw (ne_eqb w v d) (omega arith)
 
 length_counts : (p : ℕ) (l : List ℕ) → ((w : ℕ) → Memᴰ w l → w < p) → length l ≤ sum_to (λ v. count_in v l) p
 length_counts p [] h = omega arith
@@ -110,15 +97,6 @@ module _ (b p : ℕ) (row : List ℕ) (below : (w : ℕ) → Memᴰ w row → w 
   age_small past rest e w m = omega (arith, age_from w past [] rest e refl m)
 
 -- ---- one worker alone
-
-count_in_length : (v : ℕ) (l : List ℕ) → count_in v l ≤ length l
-unfolding count_in
-count_in_length v [] = omega arith
-count_in_length v (w ∷ l) = go (eqb w v) (count_in_length v l)
-  where
-    go : (q : Bool) → count_in v l ≤ length l → pick q 1 0 + count_in v l ≤ suc (length l)
-    go true ih = omega arith
-    go false ih = omega arith
 
 -- it keeps the rule whatever b is: there is no other worker
 pub keeps_alone : (row : List ℕ) → ((w : ℕ) → Memᴰ w row → w < 1) → Keeps 0 row

@@ -49,7 +49,7 @@ unfolding S1 peak_of
 front_held T k = greatest_member (held_after T) (take k (serial_order T)) (fronts (serial_order T)) (take_front k (serial_order T))
 
 -- the limit's product, with the quota in front
-quota_first : (b K q d : ℕ) → b * K * q * d ≡ K * (b * q * d)
+pub quota_first : (b K q d : ℕ) → b * K * q * d ≡ K * (b * q * d)
 quota_first b K q d = rw (mul_comm b K, mul_assoc K b q, mul_assoc K (b * q) d)
 
 -- ---- what is held in a sound state

@@ -31,6 +31,7 @@ use Rattle.peaks.proofs.Takes.{leftmost_first}
 use Rattle.bounds.proofs.Ages.{age, age_other}
 use Rattle.schedule.proofs.Bounds.Beyond.{start_action, begins, begins_beyond, Enabled}
 use Rattle.bounds.proofs.Enables.{After, same, fresh, kept, Leaves, act_after, act_leaves}
+use Rattle.table.proofs.Tests.{pick_most}
 
 -- J v batches began beyond action v, and age w turns ago was worker w's latest turn
 pub record Count (T : Table) (B : ℕ) (J age : ℕ → ℕ) (st : State) : Type 0 where
@@ -51,11 +52,7 @@ beyond_none T w st v e = rw e
 
 beyond_one : (T : Table) (w : ℕ) (st : State) (v : ℕ) → begins_beyond T w st v ≤ 1
 unfolding begins_beyond
-beyond_one T w st v = go (begins w st && ltb (number_of T v) (number_of T (start_action st)))
-  where
-    go : (q : Bool) → pick q 1 0 ≤ 1
-    go true = omega arith
-    go false = omega arith
+beyond_one T w st v = pick_most (begins w st && ltb (number_of T v) (number_of T (start_action st))) 1
 
 -- none beyond what comes at or after the start
 beyond_not : (T : Table) (w : ℕ) (st : State) (v : ℕ) → number_of T (start_action st) ≤ number_of T v → begins_beyond T w st v ≡ 0

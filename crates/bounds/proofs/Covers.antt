@@ -3,7 +3,7 @@ use mathlib.Core.Path.{◌≡◌, refl, sym, ap, ◌∙◌}
 use Prim.Native.Nat.{ℕ, suc, ◌+◌, ◌≤◌, ◌<◌}
 use native.Mathlib.Omega.{arith}
 use native.Mathlib.Decide.{ℕ_discrete, dec_lt}
-use mathlib.Core.List.{List, [], ◌∷◌, Memᴰ}
+use mathlib.Core.List.{List, Memᴰ}
 use mathlib.Core.Bool.{Bool, true, false, ◌&&◌}
 use mathlib.Core.Logic.{◌⊎◌, inl, inr}
 use lib.Seq.{take_all}
@@ -28,18 +28,7 @@ use Rattle.schedule.proofs.Sound.Done.{done_low, undone, ended_all}
 use Rattle.schedule.proofs.Linked.Waiting.{around_ended, joined_ended}
 use Rattle.bounds.proofs.Draws.{spent_beyond}
 use Rattle.filling.proofs.Delay.{Delay, Group, plain, delayed, Groups, no_group, group, Delayed}
-
--- ---- sums over lists
-
-sum_equal : (f h : ℕ → ℕ) (l : List ℕ) → ((a : ℕ) → Memᴰ a l → f a ≡ h a) → sum_over f l ≡ sum_over h l
-unfolding sum_over
-sum_equal f h [] e = refl
-sum_equal f h (x ∷ l) e = omega (arith, e x (Memᴰ.head refl), sum_equal f h l (λ a m. e a (Memᴰ.tail m)))
-
-sum_none : (f : ℕ → ℕ) (l : List ℕ) → ((a : ℕ) → Memᴰ a l → f a ≡ 0) → sum_over f l ≡ 0
-unfolding sum_over
-sum_none f [] e = refl
-sum_none f (x ∷ l) e = omega (arith, e x (Memᴰ.head refl), sum_none f l (λ a m. e a (Memᴰ.tail m)))
+use Rattle.table.proofs.Sums.{sum_over_cong, sum_over_zero}
 
 module _ (T : Table) (l : Lawful T) (p K : ℕ) (cost : ℕ → ℕ) (st : State) (f : Facts T p K st) (v : ℕ) (within : v < T.actions) (open-v : is_done T st v ≡ false) where
   abbrev beyond : ℕ → Bool
@@ -125,7 +114,7 @@ module _ (T : Table) (l : Lawful T) (p K : ℕ) (cost : ℕ → ℕ) (st : State
     delay_covers = go (is_done T st z) (ltb (number_of T v) (number_of T z)) refl refl
       where
         nothing : beyond z ≡ false → sum_over (at (alloc_of T)) g ≡ 0
-        nothing e = sum_none (at (alloc_of T)) g (λ a m. by a m (ℕ_discrete a z))
+        nothing e = sum_over_zero (at (alloc_of T)) g (λ a m. by a m (ℕ_discrete a z))
           where
             zero_pick : (q : Bool) → ◌≡◌ {A = ℕ} (pick q 0 0) 0
             zero_pick true = refl
@@ -140,8 +129,8 @@ module _ (T : Table) (l : Lawful T) (p K : ℕ) (cost : ℕ → ℕ) (st : State
             let k = all_beyond i (ltb-true (number_of T v) (number_of T z) j) in
             omega (
               arith,
-              sum_equal (at (alloc_of T)) (alloc_of T) g (λ a m. rw (k a m)),
-              sum_equal (at cost) cost g (λ a m. rw (k a m)),
+              sum_over_cong (at (alloc_of T)) (alloc_of T) g (λ a m. rw (k a m)),
+              sum_over_cong (at cost) cost g (λ a m. rw (k a m)),
               x.covered,
             )
         go true false i j = omega (arith, nothing (rw (i, j)))

@@ -27,6 +27,7 @@ use Rattle.schedule.proofs.Preservation.Starts.{start_facts, start_undone, start
 use Rattle.schedule.proofs.Bounds.Beyond.{start_action, begins, begins_beyond, batches}
 use Rattle.schedule.proofs.Sound.Done.{done_alike}
 use Rattle.schedule.proofs.Bounds.Tries.{Tries, Turned, idles, tries, turned, undone_before}
+use Rattle.table.proofs.Tests.{pick_most}
 
 -- what the actions done beyond action v cost
 unfoldable pub spent_beyond : Table → (ℕ → ℕ) → State → ℕ → ℕ
@@ -47,11 +48,7 @@ pub record Draw (T : Table) (K : ℕ) (cost : ℕ → ℕ) (budget w : ℕ) (st 
 
 -- ---- one turn
 
-pick_most : (q : Bool) (x : ℕ) → pick q x 0 ≤ x
-pick_most true x = omega arith
-pick_most false x = omega arith
-
-pick_product : (q : Bool) (x : ℕ) → x * pick q 1 0 ≡ pick q x 0
+pub pick_product : (q : Bool) (x : ℕ) → x * pick q 1 0 ≡ pick q x 0
 pick_product true x = mul-one x
 pick_product false x = mul-zero x
 

@@ -4,10 +4,9 @@ use Prim.Native.Nat.{ℕ, ◌≤◌, ◌<◌}
 use mathlib.Core.List.{List, ◌++◌, append_assoc, Memᴰ}
 use Rattle.table.specs.Format.{Table}
 use Rattle.table.specs.Serial.{S1}
-use Rattle.table.proofs.Levels.{greatest_bound}
-use Rattle.schedule.specs.Memory.{row_memory, front_rows, peak_memory, Keeps, limit}
+use Rattle.schedule.specs.Memory.{row_memory, Keeps, limit}
 use Rattle.order.proofs.Lawful.{Lawful}
-use Rattle.schedule.proofs.Runs.Rows.{front_rest, front_workers, row_held}
+use Rattle.schedule.proofs.Runs.Rows.{front_workers, row_held}
 use Rattle.filling.proofs.Delay.{drawn_cost, Delayed}
 use Rattle.bounds.proofs.Bound.{row_bound, row_alone}
 
@@ -16,11 +15,6 @@ pub keeps_front : (b : ℕ) (row front rest : List ℕ) → row ≡ front ++ res
 unfolding Keeps
 keeps_front b row front rest e k before stretch after w v d n =
     k before stretch (after ++ rest) w v (e ∙ rw d (simp append_assoc)) n
-
--- the greatest amount after a front part is within what bounds them all
-pub peak_within_lem : (T : Table) (K B : ℕ) (row : List ℕ) → ((front rest : List ℕ) → row ≡ front ++ rest → row_memory T K front ≤ B) → peak_memory T K row ≤ B
-unfolding peak_memory
-peak_within_lem T K B row h = greatest_bound (row_memory T K) (front_rows row) B (λ front m. let r = front_rest row front m in h front r.0 r.1)
 
 module _ (T : Table) (l : Lawful T) (p K : ℕ) (some : 1 ≤ p) (few : p ≤ 16) (delayed : Delayed T (drawn_cost T K)) (row : List ℕ) (h : (w : ℕ) → Memᴰ w row → w < p) where
   front_below : (front rest : List ℕ) → row ≡ front ++ rest → (w : ℕ) → Memᴰ w front → w < p

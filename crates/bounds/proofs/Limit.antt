@@ -22,7 +22,8 @@ use Rattle.filling.specs.Filled.{filled_out}
 use Rattle.filling.proofs.FilledTable.{in_place}
 use Rattle.schedule.proofs.Runs.Histories.{Started, begin_started, Traced, calls_traced}
 use Rattle.filling.proofs.Delay.{drawn_cost, Delayed}
-use Rattle.bounds.proofs.FrontParts.{peak_within_lem, front_bound, front_alone}
+use Rattle.bounds.proofs.FrontParts.{front_bound, front_alone}
+use Rattle.schedule.proofs.Runs.Rows.{peak_within_lem}
 
 -- of a record r and the row of turns that led to it
 pub record MemoryLimit (T : Table) (p K b : ℕ) (r : Run) (row : List ℕ) : Type 0 where

@@ -39,7 +39,8 @@ use Rattle.peaks.proofs.RowPeaks.{row_peak, row_rests, row_quiet}
 use Rattle.peaks.proofs.Useful.{useful_peak, useful_within}
 use Rattle.peaks.proofs.Parallel.{enough_workers}
 use Rattle.peaks.proofs.FilledPeak.{fill_workers}
-use Rattle.bounds.proofs.FrontParts.{keeps_front, peak_within_lem, front_bound}
+use Rattle.bounds.proofs.FrontParts.{keeps_front, front_bound}
+use Rattle.schedule.proofs.Runs.Rows.{peak_within_lem}
 
 -- ---- rows of turns
 

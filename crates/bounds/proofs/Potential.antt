@@ -15,7 +15,7 @@ use Rattle.table.specs.Format.{code_of, is, Table, kind}
 use Rattle.table.specs.declared.kinds.Kind.{Kind}
 use Rattle.table.specs.declared.kinds.Kind.TheVariants.{End as end, Work as work, Alloc as alloc, Free as free, Fork as fork, Join as join, Unknown as unknown}
 use Rattle.table.specs.Checks.{owner}
-use Rattle.table.proofs.Tests.{no_way, and_both}
+use Rattle.table.proofs.Tests.{no_way, and_both, pick_most}
 use Rattle.table.proofs.Sums.{sum_to_le}
 use Rattle.table.proofs.Bodies.{kind_known}
 use Rattle.schedule.specs.declared.Reply.TheVariants.{Done, Quota, Wait}
@@ -94,23 +94,15 @@ module _ (T : Table) (t a : ℕ) (st st' : State) (o : Onward T t a st st') (d :
   unfolding put_back_still
   alloc_falls = go (is alloc (kind T d)) (stands_at T st d ready) refl
     where
-      most : (q : Bool) → pick q 1 0 ≤ 1
-      most true = omega arith
-      most false = omega arith
-
       go : (k s : Bool) → stands_at T st d ready ≡ s → pick (k && not (stands_at T st' d ready)) 1 0 ≤ pick (k && not s) 1 0
       go false s e = omega arith
       go true true e = rw (ready_stands e) (omega arith)
-      go true false e = most (not (stands_at T st' d ready))
+      go true false e = pick_most (not (stands_at T st' d ready)) 1
 
   join_falls : pick (wait_still T st' d) 1 0 ≤ pick (wait_still T st d) 1 0
   unfolding wait_still
   join_falls = go (is join (kind T d)) (eqb (status_of st (T.argument d)) ended) (stands_at T st d waiting) refl refl
     where
-      most : (q : Bool) → pick q 1 0 ≤ 1
-      most true = omega arith
-      most false = omega arith
-
       none : (q : Bool) → pick (q && false) 1 0 ≤ 0
       none true = omega arith
       none false = omega arith
@@ -125,7 +117,7 @@ module _ (T : Table) (t a : ℕ) (st st' : State) (o : Onward T t a st st') (d :
               → pick (not (eqb (status_of st' (T.argument d)) ended) && not (stands_at T st' d waiting)) 1 0 ≤ 0
           by (inl q) = rw q (none (not (eqb (status_of st' (T.argument d)) ended)))
           by (inr q) = rw q (omega arith)
-      go true false false i j = most (not (eqb (status_of st' (T.argument d)) ended) && not (stands_at T st' d waiting))
+      go true false false i j = pick_most (not (eqb (status_of st' (T.argument d)) ended) && not (stands_at T st' d waiting)) 1
 
   pub other_falls : to_go T st' d ≤ to_go T st d
   unfolding to_go

@@ -21,13 +21,12 @@ pub fn wall_line(run: Run, out: &mut [u8; 85]) -> Result<(), Refusal>
     ensures result_value { charted_values result ≡ line_values run }
     ensures out_after { out.new ≡ charted_in (charted run) run out.old }
 {
-    let tested = test(run);
-    if !tested.passed {
+    let Some(_) = test(run) else {
         return Err(Refusal {
             number: 32,
             place: 0,
         });
-    }
+    };
     if MOST_TURNS < run.turns {
         return Err(Refusal {
             number: 43,

@@ -1,5 +1,5 @@
 -- The second pass over plain lists: from action to action, the children that stand open and the marks of the threads forked are those of the rules.
-use Rattle.std.specs.Prelude.{Err, Ok, Result, ⊤}
+use Rattle.std.specs.Prelude.{Err, Ok, Result, None, Some, Option, ⊤}
 use Rattle.table.specs.declared.Refusal.{Refusal}
 use mathlib.Core.Path.{◌≡◌, refl, sym, ap, ◌∙◌}
 use Prim.Native.Nat.{ℕ, zero, suc, ◌+◌, ◌≤◌, ◌<◌}
@@ -19,7 +19,7 @@ use Rattle.table.specs.declared.kinds.Kind.TheVariants.{End as end, Work as work
 use Rattle.table.specs.Pass.{try_at, refusal}
 use Rattle.table.specs.Checks.{forks, forked_below, forked_before, opened, open_before, is_latest, is_empty, join_not_latest, end_with_open, second_pass}
 use Rattle.checks.specs.Code.Steps.{Nesting, nest, nest_at}
-use Rattle.table.proofs.Tests.{same_is}
+use Rattle.table.proofs.Tests.{no_way, same_is}
 
 -- ---- how many threads are marked
 
@@ -51,31 +51,31 @@ verdict k x l b a =
 
 -- an action opens a child, or it opens none, or a check applies
 data Step (k : Kind) (x : ℕ) (l : List ℕ) (forked : List Bool) (a : ℕ) : Type 0 where
-  opens : k ≡ fork → get_or forked x false ≡ false → nest_at k x l forked ≡ nest 0 (x ∷ l) (set forked x true)
+  opens : k ≡ fork → get_or forked x false ≡ false → nest_at k x l forked ≡ nest None (x ∷ l) (set forked x true)
       → verdict k x l (get_or forked x false) a ≡ Ok tt → Step k x l forked a
-  keeps : is fork k ≡ false → length (opened k x l) ≤ length l → nest_at k x l forked ≡ nest 0 (opened k x l) forked
+  keeps : is fork k ≡ false → length (opened k x l) ≤ length l → nest_at k x l forked ≡ nest None (opened k x l) forked
       → verdict k x l (get_or forked x false) a ≡ Ok tt → Step k x l forked a
-  stops : (number : ℕ) → nest_at k x l forked ≡ nest (suc number) l forked
-      → verdict k x l (get_or forked x false) a ≡ Err (refusal (suc number) a) → Step k x l forked a
+  stops : (number : ℕ) → nest_at k x l forked ≡ nest (Some number) l forked
+      → verdict k x l (get_or forked x false) a ≡ Err (refusal number a) → Step k x l forked a
 
 step : (k : Kind) (x : ℕ) (l : List ℕ) (forked : List Bool) (a : ℕ) → Step k x l forked a
 unfolding is code_of nest_at
 step end x [] forked a = keeps refl (omega arith) refl refl
-step end x (d ∷ l) forked a = stops 8 refl refl
+step end x (d ∷ l) forked a = stops 9 refl refl
 step work x l forked a = keeps refl (omega arith) refl refl
 step alloc x l forked a = keeps refl (omega arith) refl refl
 step free x l forked a = keeps refl (omega arith) refl refl
 step fork x l forked a = go (get_or forked x false) refl
   where
     go : (b : Bool) → get_or forked x false ≡ b → Step fork x l forked a
-    go true e = stops 7 (rw e) (rw e)
+    go true e = stops 8 (rw e) (rw e)
     go false e = opens refl e (rw e) (rw e)
-step join x [] forked a = stops 8 refl refl
+step join x [] forked a = stops 9 refl refl
 step join x (d ∷ l) forked a = go (eqb x d) refl
   where
     go : (b : Bool) → eqb x d ≡ b → Step join x (d ∷ l) forked a
     go true e = keeps refl (omega arith) (rw e) (rw e)
-    go false e = stops 8 (rw e) (rw e)
+    go false e = stops 9 (rw e) (rw e)
 step unknown x l forked a = keeps refl (omega arith) refl refl
 
 -- ---- from action to action
@@ -140,7 +140,7 @@ module _ (T : Table) (a : ℕ) (l : List ℕ) (forked : List Bool) (s : Stacked 
         room = omega (arith, s.room);
       }
 
-  module _ (number : ℕ) (l' : List ℕ) (forked' : List Bool) (e : nest number l' forked' ≡ nest_at (kind T a) (T.argument a) l forked) where
+  module _ (number : Option ℕ) (l' : List ℕ) (forked' : List Bool) (e : nest number l' forked' ≡ nest_at (kind T a) (T.argument a) l forked) where
     number_is : {N : Nesting} → nest_at (kind T a) (T.argument a) l forked ≡ N → number ≡ N.number
     number_is n = ap (λ (w : Nesting). w.number) (e ∙ n)
 
@@ -150,22 +150,25 @@ module _ (T : Table) (a : ℕ) (l : List ℕ) (forked : List Bool) (s : Stacked 
     forked_is : {N : Nesting} → nest_at (kind T a) (T.argument a) l forked ≡ N → forked' ≡ N.forked
     forked_is n = ap (λ (w : Nesting). w.forked) (e ∙ n)
 
-    pub stacked_stops : (number ≡ 0 → ⊥) → try_at (second_pass T).checks a ≡ Err (refusal number a)
-    stacked_stops d = verdict_is ∙ go (step (kind T a) (T.argument a) l forked a)
+    pub stacked_stops : {n : ℕ} → number ≡ Some n → try_at (second_pass T).checks a ≡ Err (refusal n a)
+    stacked_stops {n} d = verdict_is ∙ go (step (kind T a) (T.argument a) l forked a)
       where
-        go : Step (kind T a) (T.argument a) l forked a → verdict (kind T a) (T.argument a) l (get_or forked (T.argument a) false) a ≡ Err (refusal number a)
-        go (opens k m n v) = absurd (d (number_is n))
-        go (keeps f h n v) = absurd (d (number_is n))
-        go (stops k n v) = rw (number_is n) v
+        go : Step (kind T a) (T.argument a) l forked a → verdict (kind T a) (T.argument a) l (get_or forked (T.argument a) false) a ≡ Err (refusal n a)
+        go (opens k m w v) = let q : None ≡ Some n = sym (number_is w) ∙ d in no_way (cc)
+        go (keeps f h w v) = let q : None ≡ Some n = sym (number_is w) ∙ d in no_way (cc)
+        go (stops k w v) = let q : Some k ≡ Some n = sym (number_is w) ∙ d in let p : k ≡ n = cc in rw p at v
 
-    module _ (z : number ≡ 0) where
+    module _ (z : number ≡ None) where
+      absent : {n : ℕ} {A : Type 0} → number ≡ Some n → A
+      absent {n} d = let q : None ≡ Some n = sym z ∙ d in no_way (cc)
+
       pub stacked_passes : try_at (second_pass T).checks a ≡ Ok tt
       stacked_passes = verdict_is ∙ go (step (kind T a) (T.argument a) l forked a)
         where
           go : Step (kind T a) (T.argument a) l forked a → verdict (kind T a) (T.argument a) l (get_or forked (T.argument a) false) a ≡ Ok tt
           go (opens k m n v) = v
           go (keeps f h n v) = v
-          go (stops k n v) = absurd (omega (arith, number_is n))
+          go (stops k n v) = absent (number_is n)
 
       pub stacked_next : (kind T a ≡ fork → T.argument a < 1024) → Stacked T (a + 1) l' forked'
       stacked_next b = go (step (kind T a) (T.argument a) l forked a)
@@ -173,4 +176,4 @@ module _ (T : Table) (a : ℕ) (l : List ℕ) (forked : List Bool) (s : Stacked 
           go : Step (kind T a) (T.argument a) l forked a → Stacked T (a + 1) l' forked'
           go (opens k m n v) = rw (stack_is n, forked_is n) (next_opens k (b k) m)
           go (keeps f h n v) = rw (stack_is n, forked_is n) (next_keeps f h)
-          go (stops k n v) = absurd (omega (arith, number_is n))
+          go (stops k n v) = absent (number_is n)

@@ -1,43 +1,43 @@
 // Check 10: no thread's balance falls below 0. A thread's rise and fall, its own and those of the children it joins, are kept for its parent.
 ghost use Rattle.std.specs.Prelude.{◌≡◌, ◌<◌};
-ghost use Rattle.table.specs.Format.{kind_of, table_of};
+ghost use Rattle.table.specs.Format.{table_of};
 ghost use Rattle.table.specs.declared.kinds.Kind.TheVariants.{Join as join};
 ghost use Rattle.table.specs.Pass.{try_pass};
 ghost use Rattle.table.specs.Checks.{balance_pass};
 ghost use Rattle.table.specs.Code.Steps.{Nested, WalkReady, child_amount};
-ghost use Rattle.checks.specs.Code.Steps.{least_next, balance_of};
+ghost use Rattle.checks.specs.Code.Steps.{first_next, balance_of};
 
 use table::Refusal;
-use crate::refuse;
-use table::kinds::{JOIN, alloc_of, free_of};
+use table::kinds::Kind;
 use table::read::{action_in, body_of, count, first};
-use table::lesser;
 
-// What a body draws and gives back, and its first action after which it has given back more (its count of actions, if there is none).
-#[derive(Drop)]
+// What a body draws and gives back, and its first action after which it has given back more, if there is one.
+#[derive(Clone, Copy)]
 pub(crate) struct Balance {
     pub(crate) rise: u64,
     pub(crate) fall: u64,
-    pub(crate) below: usize,
+    pub(crate) below: Option<usize>,
 }
 
-// The amount of the child x that an action of kind k joins, else 0.
-fn child_amount(k: u8, x: usize, amounts: &[u64; 1024]) -> u64
-    requires { k ≡ 5 → x < 1024 }
-    ensures { result ≡ child_amount join (kind_of k) x amounts.now }
+// The amount of the child x that an action of this kind joins, else 0.
+fn child_amount(kind: Kind, x: usize, amounts: &[u64; 1024]) -> u64
+    requires { kind ≡ join → x < 1024 }
+    ensures { result ≡ child_amount join kind x amounts.now }
 {
-    if k == JOIN { amounts[x] } else { 0 }
-}
-
-// Of a walk that found nothing up to action i: one action further, if nothing is found there either.
-fn least_next(passes: bool, i: usize, least: usize) -> usize
-    requires { i < 8192 }
-    ensures { result ≡ least_next passes i least }
-{
-    if passes {
-        return least;
+    match kind {
+        Kind::Join => amounts[x],
+        _ => 0,
     }
-    if least == i { i + 1 } else { least }
+}
+
+// The first of the actions up to i after which the body is overdrawn, from the first of those before i.
+fn first_next(before: Option<usize>, overdrawn: bool, i: usize) -> Option<usize>
+    ensures { result ≡ first_next before overdrawn i }
+{
+    if let Some(_) = before {
+        return before;
+    }
+    if overdrawn { Some(i) } else { None }
 }
 
 fn balance_walk(body: &[u8], count: usize, rises: &[u64; 1024], falls: &[u64; 1024]) -> Balance
@@ -45,17 +45,17 @@ fn balance_walk(body: &[u8], count: usize, rises: &[u64; 1024], falls: &[u64; 10
     ensures { result ≡ balance_of body.now rises.now falls.now count }
 {
     // count, in a form by which the compiler knows that every action is there
-    let stop = lesser(count, body.len() / 4);
+    let stop = count.min(body.len() / 4);
     let mut rise: u64 = 0;
     let mut fall: u64 = 0;
-    let mut below = 0;
+    let mut below = None;
     for i in 0..stop {
         let action = action_in(body, i);
-        let k = action.code;
+        let kind = action.kind();
         let x = action.argument;
-        rise += alloc_of(k, x) + child_amount(k, x, rises);
-        fall += free_of(k, x) + child_amount(k, x, falls);
-        below = least_next(rise < fall, i, below);
+        rise += action.alloc() + child_amount(kind, x, rises);
+        fall += action.free() + child_amount(kind, x, falls);
+        below = first_next(below, rise < fall, i);
     }
     Balance { rise, fall, below }
 }
@@ -73,22 +73,20 @@ pub(crate) fn balances(
 {
     *rises = [0; 1024];
     *falls = [0; 1024];
-    let mut lowest = m;
-    let mut t = n;
-    while 0 < t {
-        t -= 1;
+    let mut lowest = None;
+    for t in (0..n).rev() {
         let first = first(table, t);
         let count = count(table, t);
         let body = body_of(table, n, t);
         let w = balance_walk(body, count, rises, falls);
         rises[t] = w.rise;
         falls[t] = w.fall;
-        if w.below < count {
-            lowest = first + w.below;
+        if let Some(i) = w.below {
+            lowest = Some(first + i);
         }
     }
-    if lowest < m {
-        return refuse(10, lowest);
+    match lowest {
+        Some(a) => Err(Refusal::new(10, a as u16)),
+        None => Ok(()),
     }
-    Ok(())
 }

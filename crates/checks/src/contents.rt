@@ -6,7 +6,6 @@ ghost use Rattle.table.specs.Checks.{entries_pass, total_pass};
 ghost use Rattle.table.specs.Code.Steps.{Headed};
 
 use table::Refusal;
-use crate::refuse;
 use table::read::{count, first};
 
 // An entry that does not begin at the sum of the earlier counts, or has no action.
@@ -25,12 +24,12 @@ pub(crate) fn contents(table: &[u8], n: usize, m: usize) -> Result<(), Refusal>
         let first = first(table, t);
         let count = count(table, t);
         if entry_wrong(first, count, sum) {
-            return refuse(4, t);
+            return Err(Refusal::new(4, t as u16));
         }
         sum += count;
     }
     if sum != m {
-        return refuse(4, n);
+        return Err(Refusal::new(4, n as u16));
     }
     Ok(())
 }

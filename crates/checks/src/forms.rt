@@ -1,27 +1,26 @@
 // Checks 5 to 7: each action's kind, argument and place in its body.
-ghost use Rattle.std.specs.Prelude.{◌≡◌, not, ◌&&◌, ltb};
+ghost use Rattle.std.specs.Prelude.{◌≡◌, not, ◌&&◌, ltb, None, Some};
 ghost use Rattle.table.specs.Sum.{pick};
-ghost use Rattle.table.specs.Format.{kind_of, table_of};
+ghost use Rattle.table.specs.Format.{table_of};
 ghost use Rattle.table.specs.Pass.{try_pass};
 ghost use Rattle.table.specs.Checks.{first_pass};
 ghost use Rattle.table.specs.Code.Steps.{Laid};
 ghost use Rattle.checks.specs.Code.Steps.{form_at, Reached, Holding};
 
 use table::Refusal;
-use crate::refuse;
+use table::kinds::Kind;
 use table::read::{action_in, bodies, count};
-use table::lesser;
 
-// An action that is no end: its argument fits, and it is not the last.
-fn inner(fits: bool, last: bool) -> u8
-    ensures { result ≡ pick (not fits) 6 (pick last 7 0) }
+// The check that an action breaks which is no end: its argument fits, and it is not the last.
+fn inner(fits: bool, last: bool) -> Option<u8>
+    ensures { result ≡ pick (not fits) (Some 6) (pick last (Some 7) None) }
 {
     if !fits {
-        6
+        Some(6)
     } else if last {
-        7
+        Some(7)
     } else {
-        0
+        None
     }
 }
 
@@ -32,29 +31,29 @@ fn is_child(own: usize, n: usize, x: usize) -> bool
     own < x && x < n
 }
 
-// The number of the check that an action breaks, 0 if none.
-fn form_at(k: u8, own: usize, n: usize, x: usize, last: bool) -> u8
-    ensures { result ≡ form_at (kind_of k) own n x last }
+// The check that an action breaks, if it breaks one.
+fn form_at(kind: Kind, own: usize, n: usize, x: usize, last: bool) -> Option<u8>
+    ensures { result ≡ form_at kind own n x last }
 {
-    match k {
-        0 => {
+    match kind {
+        Kind::End => {
             if x != 0 {
-                6
+                Some(6)
             } else if last {
-                0
+                None
             } else {
-                7
+                Some(7)
             }
         }
-        1 => inner(x == 0, last),
-        2 | 3 => inner(1 <= x, last),
-        4 | 5 => inner(is_child(own, n, x), last),
-        6..=255 => 5,
+        Kind::Work => inner(x == 0, last),
+        Kind::Alloc | Kind::Free => inner(1 <= x, last),
+        Kind::Fork | Kind::Join => inner(is_child(own, n, x), last),
+        Kind::Unknown => Some(5),
     }
 }
 
 // The thread in whose body an action lies, and where that body ends.
-#[derive(Drop)]
+#[derive(Clone, Copy)]
 struct Span {
     own: usize,
     stop: usize,
@@ -84,7 +83,7 @@ pub(crate) fn first_pass(table: &[u8], n: usize, m: usize) -> Result<(), Refusal
 {
     let actions = bodies(table, n);
     // m, in a form by which the compiler knows that every action is there
-    let stop = lesser(m, actions.len() / 4);
+    let stop = m.min(actions.len() / 4);
     let mut span = Span {
         own: 0,
         stop: count(table, 0),
@@ -92,15 +91,10 @@ pub(crate) fn first_pass(table: &[u8], n: usize, m: usize) -> Result<(), Refusal
     for a in 0..stop {
         span = span_at(table, n, m, span, a);
         let action = action_in(actions, a);
-        let number = form_at(
-            action.code,
-            span.own,
-            n,
-            action.argument,
-            a + 1 == span.stop,
-        );
-        if number != 0 {
-            return refuse(number, a);
+        let last = a + 1 == span.stop;
+        let broken = form_at(action.kind(), span.own, n, action.argument, last);
+        if let Some(number) = broken {
+            return Err(Refusal::new(number, a as u16));
         }
     }
     Ok(())

@@ -3,15 +3,8 @@ ghost use Rattle.std.specs.Prelude.{◌≡◌, ◌||◌};
 ghost use Rattle.table.specs.Pass.{try_pass};
 ghost use Rattle.table.specs.Checks.{head_pass, outside as is_outside};
 
-use table::Refusal;
-use crate::refuse;
 use table::read::{actions, threads};
-
-fn outside(low: usize, high: usize, x: usize) -> bool
-    ensures { result ≡ is_outside low high x }
-{
-    x < low || high < x
-}
+use table::{Refusal, outside};
 
 fn out_of_range(n: usize, m: usize) -> bool
     ensures { result ≡ (is_outside 1 1024 n || is_outside 1 8192 m) }
@@ -23,15 +16,15 @@ pub(crate) fn head(table: &[u8]) -> Result<(), Refusal>
     ensures { result ≡ try_pass (head_pass table.now) }
 {
     if table.len() < 4 {
-        return refuse(1, 0);
+        return Err(Refusal::new(1, 0));
     }
     let n = threads(table);
     let m = actions(table);
     if out_of_range(n, m) {
-        return refuse(2, 0);
+        return Err(Refusal::new(2, 0));
     }
     if table.len() != 4 + 4 * n + 4 * m {
-        return refuse(3, 0);
+        return Err(Refusal::new(3, 0));
     }
     Ok(())
 }

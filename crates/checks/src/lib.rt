@@ -7,9 +7,9 @@ mod forms;
 mod head;
 mod nest;
 
-ghost use Rattle.std.specs.Prelude.{◌≡◌, ◌<◌, replicate, Err};
+ghost use Rattle.std.specs.Prelude.{◌≡◌, replicate};
 ghost use Rattle.table.specs.Format.{table_of};
-ghost use Rattle.table.specs.Pass.{first_found, refusal};
+ghost use Rattle.table.specs.Pass.{first_found};
 ghost use Rattle.table.specs.Checks.{passes, shape_passes};
 ghost use Rattle.table.specs.Code.Steps.{Headed};
 
@@ -18,8 +18,8 @@ use contents::contents;
 use forms::first_pass;
 use head::head;
 use nest::nesting;
-use table::read::{actions, threads};
 use table::Refusal;
+use table::read::{actions, threads};
 
 // Of any bytes: the check that refuses them, if one does.
 pub fn check(table: &[u8]) -> Result<(), Refusal>
@@ -31,7 +31,11 @@ pub fn check(table: &[u8]) -> Result<(), Refusal>
 }
 
 // The same in lent working memory, which may hold anything and is left cleared.
-pub fn check_in(table: &[u8], rises: &mut [u64; 1024], falls: &mut [u64; 1024]) -> Result<(), Refusal>
+pub fn check_in(
+    table: &[u8],
+    rises: &mut [u64; 1024],
+    falls: &mut [u64; 1024],
+) -> Result<(), Refusal>
     ensures value { result ≡ first_found (passes table.now) }
     ensures rises_after { (rises.new ≡ replicate 1024 0) × (falls.new ≡ replicate 1024 0) }
 {
@@ -45,16 +49,10 @@ pub fn check_in(table: &[u8], rises: &mut [u64; 1024], falls: &mut [u64; 1024]) 
 fn all_checks(table: &[u8], rises: &mut [u64; 1024], falls: &mut [u64; 1024]) -> Result<(), Refusal>
     ensures { result ≡ first_found (passes table.now) }
 {
-    let found = head(table);
-    if let Err(_) = found {
-        return found;
-    }
+    head(table)?;
     let n = threads(table);
     let m = actions(table);
-    let found = shape(table, n, m, rises);
-    if let Err(_) = found {
-        return found;
-    }
+    shape(table, n, m, rises)?;
     balances(table, n, m, rises, falls)
 }
 
@@ -63,23 +61,7 @@ fn shape(table: &[u8], n: usize, m: usize, stack: &mut [u64; 1024]) -> Result<()
     requires { Headed table.now n m }
     ensures { result ≡ first_found (shape_passes (table_of table.now)) }
 {
-    let found = contents(table, n, m);
-    if let Err(_) = found {
-        return found;
-    }
-    let found = first_pass(table, n, m);
-    if let Err(_) = found {
-        return found;
-    }
+    contents(table, n, m)?;
+    first_pass(table, n, m)?;
     nesting(table, n, m, stack)
-}
-
-pub(crate) fn refuse(number: u8, place: usize) -> Result<(), Refusal>
-    requires { place < 65536 }
-    ensures { result ≡ Err (refusal number place) }
-{
-    Err(Refusal {
-        number,
-        place: place as u16,
-    })
 }

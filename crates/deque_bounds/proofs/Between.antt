@@ -19,20 +19,13 @@ use Rattle.schedule.specs.Machine.{State, unborn, waiting, ended, next_of, statu
 use Rattle.order.specs.Order.{number_of}
 use Rattle.schedule.specs.Sound.{is_done}
 use Rattle.order.proofs.Lawful.{Lawful}
-use Rattle.order.proofs.Numbers.{number_once, number_step, number_child, number_past, number_rises}
+use Rattle.order.proofs.Numbers.{number_once, number_step, number_child, number_past}
 use Rattle.schedule.proofs.Sound.Facts.{Done, Facts}
 use Rattle.schedule.proofs.Sound.Done.{done_low, done_where, undone, number_first, next_below, owner_of_next, ended_all, undone_unborn, unborn_undone, born_forked, between_unborn}
-use Rattle.schedule.proofs.Linked.Waiting.{awaited, none_between}
+use Rattle.schedule.proofs.Linked.Waiting.{awaited, none_between, number_along}
 use Rattle.deque_bounds.proofs.Lines.{Live}
 
 module _ (T : Table) (l : Lawful T) where
-  pub number_along : (a d : ℕ) → a ≤ d → d < T.actions → owner T a ≡ owner T d → number_of T a ≤ number_of T d
-  number_along a d h i o = go (ℕ_discrete a d)
-    where
-      go : Dec (a ≡ d) → number_of T a ≤ number_of T d
-      go (yes e) = rw e (omega arith)
-      go (no n) = omega (arith, number_rises T l a d (omega (arith, n)) i o)
-
   -- a thread's actions lie before the action after its fork
   pub in_fork : (y d : ℕ) → y < T.actions → kind T y ≡ fork → d < T.actions → owner T d ≡ T.argument y → number_of T d < number_of T (suc y)
   in_fork y d h k i o =
@@ -40,7 +33,7 @@ module _ (T : Table) (l : Lawful T) where
       let below : c < T.threads = fork_below_lem T l.contents l.bodies y h k in
       let b : d < T.first c + T.count c = rw o at (owner_end T l.contents d i) in
       let high : number_of T d ≤ number_of T (end_of T c) =
-      number_along d (end_of T c) (omega (arith, after_end T l.contents c below, b)) (end_within T l.contents c below) (o ∙ sym (owner_of_end T l.contents c below)) in
+      number_along T l d (end_of T c) (omega (arith, after_end T l.contents c below, b)) (end_within T l.contents c below) (o ∙ sym (owner_of_end T l.contents c below)) in
       omega (arith, high, number_past T l y h k)
 
   -- numbers jump over E only at a fork

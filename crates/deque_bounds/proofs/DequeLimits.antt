@@ -26,13 +26,12 @@ use Rattle.order.proofs.Words.{Ascends}
 use Rattle.schedule.proofs.Sound.Facts.{Facts}
 use Rattle.schedule.proofs.Sound.Done.{next_below}
 use Rattle.schedule.proofs.Linked.Waiting.{awaited}
-use Rattle.deques.specs.Deques.{Deque, deque, nothing, kept, bottom, above, place_of, Deques, over}
+use Rattle.deques.specs.Deques.{Deque, deque, nothing, bottom, above, place_of, Deques, over}
 use Rattle.deques.specs.Partition.{occurs, owned_by}
 use Rattle.deques.specs.Lines.{line, lines_of}
 use Rattle.deques.proofs.DequeTurns.{with_serial, serial_facts}
 use Rattle.deques.proofs.Flat.{lines_append}
 use Rattle.deque_bounds.proofs.Lines.{Link, Chained, Light}
-use Rattle.deque_bounds.proofs.ActionLeaves.{forks}
 use Rattle.deques.specs.DequeRuns.{Pair}
 use Rattle.deques.specs.Deques.{start_deques}
 use Rattle.deques.specs.DequeCalls.{row_deques}
@@ -41,9 +40,7 @@ use Rattle.deques.specs.Deques.{deque_turn}
 use Rattle.deques.proofs.Flat.{Mine, mine}
 use Rattle.deque_bounds.proofs.SerialLines.{held_by, AllLines, SerialLines}
 use Rattle.deque_bounds.proofs.SerialLinesActs.{wait_empty}
-use Rattle.deque_bounds.proofs.SerialLinesActs as Acts
 use Rattle.deque_bounds.proofs.SerialLinesTurns.{BelowAll}
-use Rattle.schedule.specs.Machine.{taken}
 use Rattle.bounds.proofs.Draws.{spent_beyond}
 use Rattle.bounds.proofs.Bound.{held_ended, held_open}
 use Rattle.deques.proofs.Counts.{in_counted}
@@ -63,6 +60,7 @@ use Rattle.deque_bounds.proofs.SerialLines.{all_front, all_head}
 use Rattle.deques.proofs.Standing.{standing}
 use Rattle.deque_bounds.proofs.SerialLinesActs.{wake_empty}
 use Rattle.deques.proofs.Flat.{mine_at}
+use Rattle.order.proofs.Words.{ascends_back, ascends_front}
 
 -- ---- the leftmost thread
 
@@ -121,16 +119,6 @@ unfolding bottom
 bottom_in t [] = mathlib.Core.List.Memᴰ.head refl
 bottom_in t (y ∷ k) = mathlib.Core.List.Memᴰ.tail (bottom_in y k)
 
-asc_left : (f : ℕ → ℕ) (A R : List ℕ) → Ascends f (A ++ R) → Ascends f A
-unfolding Ascends
-asc_left f [] R i = tt
-asc_left f (z ∷ A) R i = ((λ y m. i.0 y (mathlib.Core.List.Memᴰ.append_left R m)), asc_left f A R i.1)
-
-asc_right : (f : ℕ → ℕ) (A R : List ℕ) → Ascends f (A ++ R) → Ascends f R
-unfolding Ascends
-asc_right f [] R i = i
-asc_right f (z ∷ A) R i = asc_right f A R i.1
-
 asc_first : (f : ℕ → ℕ) (t v : ℕ) (k : List ℕ) → Ascends f (t ∷ k) → Memᴰ v (t ∷ k) → f t ≤ f v
 unfolding Ascends
 asc_first f t v k i m = go (mathlib.Core.List.Memᴰ.cases_cons m)
@@ -181,7 +169,7 @@ module _ (T : Table) (l : Lawful T) (p K fa : ℕ) (J : ℕ → ℕ) (D : Deques
     lines_are = ap (lines_of hold) whole ∙ lines_append hold front (d ∷ rest)
 
     line_rises : Ascends (λ t. number_of T (next_of st t)) (line hold d)
-    line_rises = asc_left _ (line hold d) (lines_of hold rest) (asc_right _ (lines_of hold front) (line hold d ++ lines_of hold rest) (subst (Ascends (λ t. number_of T (next_of st t))) lines_are I.order))
+    line_rises = ascends_front _ (line hold d) (lines_of hold rest) (ascends_back _ (lines_of hold front) (line hold d ++ lines_of hold rest) (subst (Ascends (λ t. number_of T (next_of st t))) lines_are I.order))
 
     line_below : (v : ℕ) → Memᴰ v (line hold d) → v < T.threads
     line_below v m = (standing T l p K D I.kept v (subst (λ (k : List ℕ). Memᴰ v k) (sym lines_are) (mathlib.Core.List.Memᴰ.append_right (lines_of hold front) (mathlib.Core.List.Memᴰ.append_left (lines_of hold rest) m)))).0

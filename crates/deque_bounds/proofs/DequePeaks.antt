@@ -5,7 +5,7 @@ use Prim.Native.Nat.{ℕ, zero, suc, ◌+◌, ◌-◌, ◌≤◌, ◌<◌, max}
 use native.Mathlib.Omega.{arith}
 use native.Mathlib.Decide.{ℕ_discrete}
 use mathlib.Core.List.{List, [], ◌∷◌, ◌++◌, Memᴰ}
-use mathlib.Core.Bool.{Bool, true, false, ◌&&◌}
+use mathlib.Core.Bool.{Bool, true, false}
 use mathlib.Core.Logic.{◌⊎◌, inl, inr}
 use lib.ListN.{length, get_or, set}
 use lib.Seq.{get_or-set_same, get_or-set_other}
@@ -54,6 +54,7 @@ use Rattle.deque_bounds.proofs.DequeLimits.{Somewhere, somewhere}
 use Rattle.deque_bounds.specs.Deepest.{robbed_at, deepest}
 use Rattle.deque_bounds.proofs.DequeCounts.{under, under_up, under_more, under_few, goes_inside, walk, load_few}
 use Rattle.deque_bounds.proofs.DequeActs.{LoadWithin, act_within}
+use Rattle.order.proofs.Words.{ascends_back}
 
 -- ---- lists
 
@@ -69,11 +70,6 @@ place zero (d ∷ ds) e = record { front = []; after = ds; whole = refl; size = 
 place (suc c) (d ∷ ds) e =
     let y : Placed c ds = place c ds e in
     record { front = d ∷ y.front; after = y.after; whole = ap (d ∷◌) y.whole; size = omega (arith, y.size) }
-
-asc_right : (f : ℕ → ℕ) (A R : List ℕ) → Ascends f (A ++ R) → Ascends f R
-unfolding Ascends
-asc_right f [] R i = i
-asc_right f (z ∷ A) R i = asc_right f A R i.1
 
 asc_cross : (f : ℕ → ℕ) (L B : List ℕ) → Ascends f (L ++ B) → (x v : ℕ) → Memᴰ x L → Memᴰ v B → f x < f v
 unfolding Ascends
@@ -183,7 +179,7 @@ module _ (T : Table) (l : Lawful T) (p K fa : ℕ) (J : ℕ → ℕ) (D : Deques
     unfolding under
     few_left =
         let rising : Ascends num (line hold d ++ lines_of hold P.after) =
-        asc_right num (lines_of hold P.front) _ (subst (Ascends num) (lines_are P.front d P.after P.whole) I.order) in
+        ascends_back num (lines_of hold P.front) _ (subst (Ascends num) (lines_are P.front d P.after P.whole) I.order) in
         let beyond : under num hold (num b) P.after ≡ 0 =
         none_under num hold (num b) P.after (in_use_after P.front d P.after (subst AllInUse P.whole I.kept.placed.in_use))
         (λ v m. omega (arith, asc_cross num (line hold d) (lines_of hold P.after) rising b v b_in m)) in

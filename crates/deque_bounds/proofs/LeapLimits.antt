@@ -15,11 +15,11 @@ use Rattle.table.specs.Checks.{owner, end_of}
 use Rattle.table.specs.Nested.{nest}
 use Rattle.table.proofs.Tests.{no_way}
 use Rattle.table.proofs.NestedThreads.{nest_child}
-use Rattle.schedule.specs.Machine.{State, held, ended, next_of, status_of}
+use Rattle.schedule.specs.Machine.{State, ended, next_of, status_of}
 use Rattle.order.proofs.Lawful.{Lawful, Within}
 use Rattle.schedule.proofs.Sound.Facts.{Facts}
 use Rattle.schedule.proofs.Sound.Done.{next_below, owner_of_next}
-use Rattle.deques.specs.Deques.{Deque, deque, kept, bottom, Deques}
+use Rattle.deques.specs.Deques.{Deque, bottom, Deques}
 use Rattle.deques.specs.Partition.{owns, owned_by}
 use Rattle.deques.specs.Lines.{line}
 use Rattle.deques.proofs.DequeTurns.{with_serial, serial_facts}
@@ -49,9 +49,10 @@ use Rattle.bounds.proofs.Ages.{age, age_small}
 use Rattle.schedule.proofs.Bounds.Beyond.{Enabled}
 use Rattle.schedule.proofs.Sound.Leftmost.{front_done, leftmost_undone, leftmost_enabled}
 use mathlib.Core.List.{reverse_aux}
-use native.Mathlib.Nat.{mul-suc, mul-zero, mul-one, one-mul, mul-le-mul_left, mul-le-mul_right, mul-add, mul_assoc, mul_comm}
+use native.Mathlib.Nat.{mul-suc, mul-zero, mul-one, one-mul, mul-le-mul_left, mul-le-mul_right, mul-add}
 use Rattle.deques.proofs.Counts.{owned_append}
 use Rattle.deque_bounds.proofs.StealsWithinTurns.{steals_within_same}
+use Rattle.bounds.proofs.Bound.{quota_first}
 
 -- ---- levels and nesting
 
@@ -114,9 +115,6 @@ within_depth j B v (suc m) lp (suc d) b i h k =
   where
     at_least : (B m : ℕ) → 1 ≤ B → m ≤ B * m
     at_least B m b = let z : 1 * m ≤ B * m = mul-le-mul_right m b in omega (arith, z, one-mul m)
-
-quota_first : (b K q d : ℕ) → b * K * q * d ≡ K * (b * q * d)
-quota_first b K q d = rw (mul_comm b K, mul_assoc K b q, mul_assoc K (b * q) d)
 
 owned_in : (front : List Deque) (d : Deque) (rest ds : List Deque) → ds ≡ front ++ d ∷ rest → (o : ℕ) → d.owner ≡ o → 1 ≤ owned_by o ds
 unfolding owned_by

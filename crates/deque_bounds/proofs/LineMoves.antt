@@ -19,10 +19,7 @@ use Rattle.order.proofs.Lawful.{Lawful}
 use Rattle.order.proofs.Words.{Ascends}
 use Rattle.deques.specs.Deques.{is_empty, bottom, above}
 use Rattle.deque_bounds.proofs.Lines.{Live, Link, NoLiveChildBut, Parted, Chained, Light, Falls, Moved, link_keeps, chained_keeps, link_number, link_nest}
-
-bottom_under : (c t : ℕ) (k : List ℕ) → bottom (c ∷ t ∷ k) ≡ bottom (t ∷ k)
-unfolding bottom
-bottom_under c t k = refl
+use Rattle.deques.proofs.Bottoms.{bottom_top}
 
 -- no child is thread 0
 pub some_child : (T : Table) (l : Lawful T) (x : ℕ) → x < T.actions → kind T x ≡ fork → T.argument x ≡ 0 → ⊥
@@ -82,7 +79,7 @@ module _ (T : Table) (l : Lawful T) (J : ℕ → ℕ) (falls : Falls T J) {K : �
 
     pub light_fork : (far : ℕ) (k : List ℕ) → number_of T (next_of st t) ≤ number_of T (next_of s c) → Light T far J st (t ∷ k) → Light T far J s (c ∷ t ∷ k)
     unfolding Light
-    light_fork far k i r = rw (bottom_under c t k) (omega (arith, r, falls (next_of st t) (next_of s c) i))
+    light_fork far k i r = rw (bottom_top c t k) (omega (arith, r, falls (next_of st t) (next_of s c) i))
 
   -- ---- a pop: the thread above has ended
 
@@ -112,7 +109,7 @@ module _ (T : Table) (l : Lawful T) (J : ℕ → ℕ) (falls : Falls T J) {K : �
     unfolding Light
     light_pop far y k n i r =
         let z : next_of s y ≡ next_of st y = m.next_others y n in
-        let r' : suc (J (next_of st t)) ≤ nest T (bottom (y ∷ k)) + far = rw (bottom_under t y k) at r in
+        let r' : suc (J (next_of st t)) ≤ nest T (bottom (y ∷ k)) + far = rw (bottom_top t y k) at r in
         rw z (omega (arith, r', falls (next_of st t) (next_of st y) i))
 
 -- ---- a steal: J' counts one more up to the start

@@ -15,12 +15,13 @@ use Rattle.schedule.specs.Machine.{State, ready, held, waiting, next_of, status_
 use Rattle.order.specs.Order.{number_of}
 use Rattle.order.proofs.Lawful.{Lawful}
 use Rattle.order.proofs.Words.{Ascends}
-use Rattle.deques.specs.Deques.{Deque, kept, Deques}
+use Rattle.deques.specs.Deques.{Deque, Deques}
 use Rattle.deques.specs.Partition.{owned_by}
 use Rattle.deques.specs.Lines.{line, lines_of}
 use Rattle.deques.proofs.DequeTurns.{Kept}
 use Rattle.deques.proofs.Standing.{standing}
 use Rattle.deque_bounds.proofs.Lines.{Live, Parted, Chained, Light, Falls, Moved, chained_keeps, light_keeps}
+use Rattle.schedule.proofs.Preservation.ListMoves.{ascends_same}
 
 abbrev pub held_by : State → ℕ → ℕ
 held_by st v = (worker_of st v).thread
@@ -49,14 +50,6 @@ module _ (f g : ℕ → ℕ) where
       go y (inl m) = i.0 y m
       go y (inr m) = c x y (Memᴰ.head refl) m
 
-  asc_same : (R : List ℕ) → ((v : ℕ) → Memᴰ v R → g v ≡ f v) → Ascends f R → Ascends g R
-  unfolding Ascends
-  asc_same [] e i = tt
-  asc_same (x ∷ R) e i = (
-    (λ y m. omega (arith, i.0 y m, e x (Memᴰ.head refl), e y (Memᴰ.tail m))),
-    asc_same R (λ v m. e v (Memᴰ.tail m)) i.1,
-  )
-
   -- beyond one in the middle
   pub asc_mid : (A R : List ℕ) (t : ℕ) → Ascends f (A ++ t ∷ R) → ((v : ℕ) → Memᴰ v R → f t < f v) × Ascends f R
   unfolding Ascends
@@ -67,7 +60,7 @@ module _ (f g : ℕ → ℕ) where
   pub asc_replace : (A R M : List ℕ) (t : ℕ) → Ascends f (A ++ t ∷ R) → ((v : ℕ) → Memᴰ v A → g v ≡ f v) → ((v : ℕ) → Memᴰ v R → g v ≡ f v) → Ascends g M
       → ((m : ℕ) → Memᴰ m M → f t ≤ g m) → ((m v : ℕ) → Memᴰ m M → Memᴰ v R → g m < g v) → Ascends g (A ++ (M ++ R))
   unfolding Ascends
-  asc_replace [] R M t i e k j low up = asc_append M R j (asc_same R k i.1) up
+  asc_replace [] R M t i e k j low up = asc_append M R j (ascends_same f g R k i.1) up
   asc_replace (x ∷ A) R M t i e k j low up = (
     (λ y m. first y (Memᴰ.append_cases A m)),
     asc_replace A R M t i.1 (λ v m. e v (Memᴰ.tail m)) k j low up,

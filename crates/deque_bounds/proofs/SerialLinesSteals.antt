@@ -12,7 +12,7 @@ use lib.Dec.{ltb, eqb}
 use borrow.Author.Tests.{eqb-false, eq-eqb, lt-ltb, le-ltb}
 use Rattle.table.specs.Sum.{pick}
 use Rattle.table.specs.Format.{Table, kind}
-use Rattle.table.specs.declared.kinds.Kind.TheVariants.{Free as free, Fork as fork}
+use Rattle.table.specs.declared.kinds.Kind.TheVariants.{Fork as fork}
 use Rattle.table.specs.Checks.{owner, end_of}
 use Rattle.table.specs.Nested.{nest}
 use Rattle.table.proofs.Tests.{no_way}
@@ -32,7 +32,7 @@ use Rattle.deques.proofs.Bottoms.{line_bottom}
 use Rattle.deque_bounds.proofs.Lines.{Live, Parted, Chained, Light}
 use Rattle.deque_bounds.proofs.Between.{ends_before}
 use Rattle.deque_bounds.proofs.SerialLines.{held_by, AllLines, SerialLines, standing_live, all_append, all_front, all_head, all_cons}
-use Rattle.deque_bounds.specs.DequeRows.{robs, starts_at, steals_beyond, steals_far, thread_left_of}
+use Rattle.deque_bounds.specs.DequeRows.{starts_at, steals_beyond, steals_far, thread_left_of}
 use Rattle.deques.proofs.Placed.{robbed_lines}
 use Rattle.deques.proofs.DequeTurns.{taken_common, stolen, b_below, b_ready}
 use Rattle.deque_bounds.proofs.ActionLeaves.{live_set, wait_set}
@@ -40,6 +40,7 @@ use Rattle.deque_bounds.proofs.SerialLinesActs.{one_line, one_light}
 use Rattle.deque_bounds.proofs.LineMoves.{falls_more, parted_more, chained_more, chained_above, chained_stolen, light_above, light_stolen, light_beyond, light_far, ascends_bottom}
 use Rattle.schedule.specs.Machine.{taken}
 use lib.Seq.{get_or-set_same, get_or-set_other}
+use Rattle.order.proofs.Words.{ascends_back, ascends_front}
 
 -- ---- the deque at a place
 
@@ -94,16 +95,6 @@ asc_cross f (z ∷ A) R i x y m n = go (Memᴰ.cases_cons m) (asc_cross f A R i.
     go : (x ≡ z) ⊎ Memᴰ x A → (Memᴰ x A → Memᴰ y R → f x < f y) → f x < f y
     go (inl e) ih = rw e (i.0 y (Memᴰ.append_right A n))
     go (inr e) ih = ih e n
-
-asc_left : (f : ℕ → ℕ) (A R : List ℕ) → Ascends f (A ++ R) → Ascends f A
-unfolding Ascends
-asc_left f [] R i = tt
-asc_left f (z ∷ A) R i = ((λ y m. i.0 y (Memᴰ.append_left R m)), asc_left f A R i.1)
-
-asc_right : (f : ℕ → ℕ) (A R : List ℕ) → Ascends f (A ++ R) → Ascends f R
-unfolding Ascends
-asc_right f [] R i = i
-asc_right f (z ∷ A) R i = asc_right f A R i.1
 
 module _ (T : Table) (l : Lawful T) (p K : ℕ) (few : p ≤ 16) (w : ℕ) (below : w < p) (c far : ℕ) (J : ℕ → ℕ) (D : Deques) (I : SerialLines T p K far J D)
     (free : (worker_of D.state w).holds ≡ false) (some : is_empty (get_or D.deques c nothing).threads ≡ false) where
@@ -238,7 +229,7 @@ module _ (T : Table) (l : Lawful T) (p K : ℕ) (few : p ≤ 16) (w : ℕ) (belo
       go [] e i = no_way cc
       go (t ∷ k) e i =
           let z : bottom (t ∷ k) ≡ b = ap bottom (sym e) ∙ l_bottom in
-          let r : Ascends num (t ∷ k) = subst (Ascends num) e (asc_left num L B (asc_right num A (L ++ B) rising)) in
+          let r : Ascends num (t ∷ k) = subst (Ascends num) e (ascends_front num L B (ascends_back num A (L ++ B) rising)) in
           let y : num t ≤ num (bottom (t ∷ k)) = ascends_bottom num t k r in
           subst (λ (g : ℕ). suc (J' (next_of s g)) ≤ nest T g + far) z
           (light_stolen T l J J' I.falls start up flat st s same still ends far t k (ap (next_of st) (sym z)) (subst (λ (g : ℕ). num t ≤ num g) z y) (subst (Light T far J st) e mine.1))
@@ -316,7 +307,7 @@ module _ (T : Table) (l : Lawful T) (p K : ℕ) (few : p ≤ 16) (w : ℕ) (belo
   -- the lines right of the robbed one lie beyond the start
   pub rest_beyond : (v : ℕ) → Memᴰ v B → number_of T start ≤ num v
   rest_beyond v m =
-      let z : num (bottom L) < num v = asc_cross num L B (asc_right num A (L ++ B) rising) (bottom L) v (bottom_in L l_some) m in
+      let z : num (bottom L) < num v = asc_cross num L B (ascends_back num A (L ++ B) rising) (bottom L) v (bottom_in L l_some) m in
       let y : num (bottom L) ≡ num b = ap num l_bottom in
       omega (arith, z, y)
 

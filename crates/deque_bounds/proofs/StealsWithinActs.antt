@@ -26,7 +26,7 @@ use Rattle.schedule.proofs.Sound.Facts.{Facts}
 use Rattle.schedule.proofs.Sound.Done.{undone_unborn, unborn_first, next_below, owner_of_next}
 use Rattle.schedule.proofs.Preservation.Releases.{Acting, acting}
 use Rattle.schedule.proofs.Linked.Waiting.{awaited}
-use Rattle.deques.specs.Deques.{Deque, deque, kept, bottom, own, Deques, over}
+use Rattle.deques.specs.Deques.{Deque, deque, bottom, Deques, over}
 use Rattle.deques.specs.Partition.{owned_by}
 use Rattle.deques.specs.Lines.{line, lines_of}
 use Rattle.deques.proofs.DequeTurns.{Kept, with_serial, serial_facts}
@@ -50,6 +50,7 @@ use Rattle.order.proofs.Joins.{join_depends}
 use Rattle.order.proofs.Numbers.{number_depends}
 use Rattle.schedule.proofs.Sound.Done.{done_ended, ended_all}
 use native.Mathlib.Nat.{mul-suc, mul-le-mul_left}
+use Rattle.deques.proofs.Bottoms.{bottom_top}
 
 pub thread_within_is : (T : Table) (B leaps : ℕ) (J : ℕ → ℕ) (st : State) (last slack t : ℕ) → ThreadWithin T B leaps J st last slack t
     → Able T st t → J (next_of st t) + B + B + 1 ≤ B * level T (next_of st t) + nest T last + leaps + slack
@@ -64,10 +65,6 @@ is_thread_within T B leaps J st last slack t h = h
 able_of : (T : Table) (st : State) (t : ℕ) → (kind T (next_of st t) ≡ join → status_of st (T.argument (next_of st t)) ≡ ended) → Able T st t
 unfolding Able
 able_of T st t h = h
-
-bottom_under : (c t : ℕ) (k : List ℕ) → bottom (c ∷ t ∷ k) ≡ bottom (t ∷ k)
-unfolding bottom
-bottom_under c t k = refl
 
 bottom_one : (t : ℕ) → bottom (t ∷ []) ≡ t
 unfolding bottom
@@ -360,8 +357,8 @@ module _ (T : Table) (l : Lawful T) (p K : ℕ) (few : p ≤ 16) (w : ℕ) (belo
     at_fork : kind T a ≡ fork → held_by s w ≡ T.argument a → next_of s t ≡ suc a → is_done T s a ≡ true → D.deques ≡ front ++ deque w (t ∷ k) ∷ rest → LinesWithin T B leaps J new s D.deques
     at_fork n e y d z =
         put (deque w (t ∷ k)) (new w) (x ∷ t ∷ k) z (slack_w (t ∷ k)) (owned_line x (t ∷ k) e)
-        (top_line_within T B leaps J new s (new w) x (t ∷ k) (subst (λ (b : ℕ). ThreadWithin T B leaps J s b (new w) x) (sym (bottom_under x t k)) child)
-        (λ u i. subst (λ (b : ℕ). ThreadWithin T B leaps J s b 0 u) (sym (bottom_under x t k)) (under u (Memᴰ.cases_cons i))))
+        (top_line_within T B leaps J new s (new w) x (t ∷ k) (subst (λ (b : ℕ). ThreadWithin T B leaps J s b (new w) x) (sym (bottom_top x t k)) child)
+        (λ u i. subst (λ (b : ℕ). ThreadWithin T B leaps J s b 0 u) (sym (bottom_top x t k)) (under u (Memᴰ.cases_cons i))))
       where
         x : ℕ
         x = T.argument a
@@ -397,7 +394,7 @@ module _ (T : Table) (l : Lawful T) (p K : ℕ) (few : p ≤ 16) (w : ℕ) (belo
         (top_line_within T B leaps J new s (new w) t2 j (thread_within_weaken (bottom (t2 ∷ j)) t2 (new w) (thread_within t2 (Memᴰ.head refl))) (λ y r. thread_within y (Memᴰ.tail r)))
       where
         same : last ≡ bottom (t2 ∷ j)
-        same = ap (λ (b : List ℕ). bottom (t ∷ b)) e ∙ bottom_under t t2 j
+        same = ap (λ (b : List ℕ). bottom (t ∷ b)) e ∙ bottom_top t t2 j
 
         thread_within : (y : ℕ) → Memᴰ y (t2 ∷ j) → ThreadWithin T B leaps J s (bottom (t2 ∷ j)) 0 y
         thread_within y r = subst (λ (b : ℕ). ThreadWithin T B leaps J s b 0 y) same (under_keeps y (subst (λ (b : List ℕ). Memᴰ y b) (sym e) r))

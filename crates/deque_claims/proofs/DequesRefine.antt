@@ -30,6 +30,7 @@ use Rattle.wivakkol_deques.proofs.DequeOpens.{deque_open_record, deque_open_row,
 use Rattle.wivakkol_deques.proofs.DequeStarts.{deque_begun_so, start_deques_stand}
 use Rattle.wivakkol_deques.proofs.DequeSays.{deque_turn_answers, deque_list_answers}
 use Rattle.deque_claims.specs.LentDequeCalls.{LentDequeCall, moving, opening, lent_deque_move, lent_deque_call, lent_pairs_of, lent_deques_after, lent_pairs, lent_deques_returned, deque_moves_of, deque_returned_of, deques_returned_by}
+use Rattle.schedule.proofs.Runs.Values.{reply_number}
 
 -- ---- a beginning
 
@@ -46,12 +47,6 @@ module _ (s : List ℕ) (p K room : ℕ) (e : (lent_begin s p K room).number ≡
   begun_deques_record = begun_deques_there ∙ (λ i. record { answer = Ok tt; run = sym (ap (λ (x : DequeBegun). x.run) begun_deques_there) i })
 
 -- ---- the row of turns
-
-reply_number : (x : Reply) → (reply_values x).number ≡ 0
-reply_number Idle = refl
-reply_number (Done t a) = refl
-reply_number (Quota t x) = refl
-reply_number (Wait t c) = refl
 
 -- a turn was taken where it was not refused: no check has the number 0
 pub turned_row : (r : DequeRun) (w c : ℕ) → pick (eqb (deque_turning_values (deque_turned r w c).answer).number 0) (pair w c ∷ []) [] ≡ deque_turn_row (deque_turned r w c).answer (pair w c)

@@ -19,7 +19,7 @@ unfolding bottoms_of
 bottoms_append held [] ds = refl
 bottoms_append held (d ∷ front) ds = ap (bottom (line held d) ∷◌) (bottoms_append held front ds)
 
-bottom_top : (t u : ℕ) (l : List ℕ) → bottom (t ∷ u ∷ l) ≡ bottom (u ∷ l)
+pub bottom_top : (t u : ℕ) (l : List ℕ) → bottom (t ∷ u ∷ l) ≡ bottom (u ∷ l)
 unfolding bottom
 bottom_top t u l = refl
 

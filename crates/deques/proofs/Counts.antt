@@ -1,6 +1,6 @@
 -- How often a thread stands in a list, in the deques, in the lines and among the bottoms.
 use mathlib.Core.Path.{◌≡◌, refl, sym}
-use Prim.Native.Nat.{ℕ, suc, ◌+◌, ◌≤◌, ◌<◌}
+use Prim.Native.Nat.{ℕ, ◌+◌, ◌≤◌, ◌<◌}
 use mathlib.Core.List.Memᴰ
 use mathlib.Core.List.{List, [], ◌∷◌, ◌++◌, Memᴰ}
 use mathlib.Core.Bool.{Bool, true, false, ◌&&◌}
@@ -16,6 +16,7 @@ use Rattle.deques.specs.Deques.{Deque, is_empty}
 use Rattle.deques.specs.Lines.{line, lines_of, bottoms_of}
 use Rattle.deques.specs.Partition.{occurs, owns, owned_by, InUse, AllInUse}
 use Rattle.deques.proofs.Placed.{bottom_counts}
+pub use Rattle.schedule.proofs.Occurrences.{count_in_append as count_append, count_in_own as count_self}
 
 -- ---- in a list
 
@@ -27,15 +28,6 @@ counted_in v (x ∷ l) m = go (Memᴰ.cases_cons m) (counted_in v l)
     go : (v ≡ x) ⊎ Memᴰ v l → (Memᴰ v l → 1 ≤ count_in v l) → 1 ≤ pick (eqb x v) 1 0 + count_in v l
     go (inl e) ih = rw (eq-eqb x v (sym e)) (omega arith)
     go (inr i) ih = omega (arith, ih i)
-
-pub count_append : (t : ℕ) (k l : List ℕ) → count_in t (k ++ l) ≡ count_in t k + count_in t l
-unfolding count_in
-count_append t [] l = omega arith
-count_append t (x ∷ k) l = omega (arith, count_append t k l)
-
-pub count_self : (t : ℕ) (l : List ℕ) → count_in t (t ∷ l) ≡ suc (count_in t l)
-unfolding count_in
-count_self t l = rw (eq-eqb t t refl) (omega arith)
 
 pub in_counted : (v : ℕ) (l : List ℕ) → 1 ≤ count_in v l → Memᴰ v l
 unfolding count_in

@@ -1,11 +1,11 @@
 -- Every call's answer has the number and the values that follow from its checks, its turns and their replies.
 use Rattle.std.specs.Prelude.{Err, Ok, Result, ⊤}
 use Rattle.table.specs.declared.Refusal.{Refusal}
-use mathlib.Core.Path.{◌≡◌, refl, sym, ap, ◌∙◌, fun_ext}
+use mathlib.Core.Path.{◌≡◌, refl, sym, ap, ◌∙◌}
 use Prim.Native.Nat.{ℕ, zero, suc, ◌+◌, ◌-◌, ◌/◌, ◌^◌}
 use native.Mathlib.Nat.{zero-add, suc-add, add-zero, add-suc}
 use mathlib.Core.List.{List, ◌++◌}
-use mathlib.Core.Bool.{Bool, true, false, not, ◌&&◌, ◌||◌}
+use mathlib.Core.Bool.{Bool, true, false, not, ◌||◌, and-false}
 use lib.ListN.{length}
 use native.Mathlib.Omega.{arith}
 use borrow.Author.Tests.{lt-ltb, le-ltb, ne_eqb}
@@ -34,6 +34,7 @@ use Rattle.deques.specs.DequeTurn.{unsound_deques, no_choice, deque_checks, step
 use Rattle.deques.specs.DequeRuns.{Pair, pair_at, deque_ran, deque_moved, drive_deques, pairs_run}
 use Rattle.deques.specs.DequeValues.{deque_turning_values, deque_turn_values, after_pairs, pair_checks, stops_before, pairs_taken, pairs_stopped_by, driven_values, pairs_values}
 use Rattle.deques.proofs.DequeTests.{blank_deques_exactly}
+use Rattle.schedule.proofs.Runs.Values.{first_same, left_values}
 
 -- ---- a beginning and a turn
 
@@ -65,9 +66,6 @@ after_next : (f : ℕ → Pair) (n : ℕ) (r : DequeRun) → after_pairs (λ i. 
 unfolding after_pairs
 after_next f zero r = refl
 after_next f (suc n) r = ap (λ (x : DequeRun). deque_moved x (f (suc n))) (after_next f n r)
-
-first_same : (g h : ℕ → Bool) → ((n : ℕ) → g n ≡ h n) → (k : ℕ) → first_that g k ≡ first_that h k
-first_same g h e k = ap (λ (x : ℕ → Bool). first_that x k) (fun_ext e)
 
 -- the values of a run that stops after n of k turns, i turns having gone before: the record that they left, and the pair of the next
 abbrev stopped : ℕ → ℕ → ℕ → DequeRun → Pair → Values
@@ -136,11 +134,7 @@ module _ (who f : ℕ → Pair) (k i : ℕ) (r : DequeRun) (same : who i ≡ f 0
 
 drive_values : (who f : ℕ → Pair) (k i : ℕ) (r : DequeRun) → ((n : ℕ) → who (i + n) ≡ f n) → report_values (drive_deques who k i r).report ≡ from i f k r
 unfolding drive_deques pairs_taken first_that after_pairs
-drive_values who f zero i r h = rw add-zero (go (root_ended r.run))
-  where
-    go : (b : Bool) → report_values (pick b (Finished i) (Spent i)) ≡ said_values (Ok tt) (pick b finished spent) 0 0 i
-    go true = refl
-    go false = refl
+drive_values who f zero i r h = rw add-zero (left_values i (root_ended r.run))
 drive_values who f (suc k) i r h =
     drive_step who f k i r (rw add-zero at (h 0))
     (drive_values who (λ n. f (suc n)) k (suc i) (deque_moved r (f 0)) (λ n. ap who (suc-add i n ∙ sym (add-suc i n)) ∙ h (suc n)))
@@ -170,11 +164,7 @@ pairs_values_lem r l = go (unsound_deques r) (run_values_lem (pair_at l) (length
 
 blank_passes : unsound_deques blank_deques ≡ false
 unfolding unsound_deques
-blank_passes = rw ((blank_deques_exactly blank_deques).1 refl) (none (not (deque_sound blank_deques)))
-  where
-    none : (q : Bool) → (q && false) ≡ false
-    none true = refl
-    none false = refl
+blank_passes = rw ((blank_deques_exactly blank_deques).1 refl) (and-false (not (deque_sound blank_deques)))
 
 no_worker_lem : (w : ℕ) → no_worker blank_deques.run w ≡ true
 unfolding no_worker blank_deques blank

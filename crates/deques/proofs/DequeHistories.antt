@@ -30,7 +30,6 @@ use Rattle.schedule.specs.Calls.{turns_in}
 use Rattle.filling.specs.Filled.{filled_out}
 use Rattle.filling.proofs.Runs.{Runs}
 use Rattle.order.proofs.Lawful.{Lawful, lawful}
-use Rattle.order.proofs.Lists.{filled_front}
 use Rattle.schedule.proofs.Beginnings.{settings_exactly, silent_runs}
 use Rattle.schedule.proofs.Runs.Histories.{start_steady}
 use Rattle.schedule.proofs.Stores.{Fits}
@@ -46,6 +45,7 @@ use Rattle.deques.specs.DequeRuns.{Pair, pair, pair_at, deque_ran, deque_moved, 
 use Rattle.deques.specs.DequeCalls.{DequeCall, turn, over_pairs, deque_turn_row, pairs_from, after_deque_call, pairs_of, after_deque_calls, pairs_of_calls, row_deques}
 use Rattle.deques.specs.Lines.{lines_of, bottoms_of}
 use Rattle.deques.proofs.DequeStores.{start_kept, stored_back, stored_steady, moved_steady, moved_deques}
+use Rattle.schedule.proofs.Runs.Histories.{start_bytes}
 
 -- ---- what a beginning gives
 
@@ -89,10 +89,6 @@ module _ (s : List ℕ) (p K : ℕ) where
   unfolding start_deque_run start_run start_state lines_of bottoms_of bottom
   start_record = refl
 
-  start_table : table_in (start_run s p K) ≡ table_of s
-  unfolding start_run
-  start_table = ap table_of (filled_front 36868 s)
-
   -- the deques of the start are read off its record
   pub start_read : Lawful (table_of s) → deques_of (start_deque_run s p K) ≡ start_deques (table_of s)
   unfolding start_deque_run
@@ -104,11 +100,11 @@ module _ (s : List ℕ) (p K : ℕ) where
   start_steady_deques h f =
       let r : Run = start_run s p K in
       let x : Steady r = start_steady s p K h f in
-      stored_steady r x.table x.settings x.table_length x.table_rest (start_deques (table_of s)) (rw start_table (start_kept (table_of s) (lawful s h) p K))
+      stored_steady r x.table x.settings x.table_length x.table_rest (start_deques (table_of s)) (rw (start_bytes s p K) (start_kept (table_of s) (lawful s h) p K))
 
   start_copy : table_in (start_deque_run s p K).run ≡ table_of s
   unfolding start_deque_run
-  start_copy = start_table
+  start_copy = start_bytes s p K
 
   start_workers : (start_deque_run s p K).run.workers ≡ p
   unfolding start_deque_run start_run
@@ -322,7 +318,7 @@ deque_turn_refused r w c x e = go (try_at (deque_checks r w c) 0) e
 
 -- of a beginning and a list of calls: the deques left are those after the row of its turns, from the start on; the record is sound but for its turns taken
 pub record TracedDeques (s : List ℕ) (p K : ℕ) (r : DequeRun) (calls : List DequeCall) : Type 0 where
-  pub (Ok tt) : StartedDeques s p K r
+  pub started : StartedDeques s p K r
   pub steady : SteadyDeques (after_deque_calls calls r)
   pub below : (g : Pair) → Memᴰ g (pairs_of_calls calls r) → (g.worker < p) × (g.choice < p)
   pub deques : deques_of (after_deque_calls calls r) ≡ row_deques (table_of (filled_out s K)) K (start_deques (table_of (filled_out s K))) (pairs_of_calls calls r)
@@ -334,7 +330,7 @@ deque_calls_traced s p K r e calls =
     let l : LeftDeques r (pairs_of_calls calls r) (after_deque_calls calls r) = deque_calls_left r h calls in
     let o = start_values s p K r b in
     record {
-      (Ok _) = b;
+      started = b;
       steady = deque_calls_steady r h calls;
       below = λ g m. rw o.1 at (l.below g m);
       deques = l.deques ∙ rw (o.0, o.2, o.3);

@@ -15,12 +15,11 @@ use Rattle.table.specs.Pass.{first_found}
 use Rattle.table.specs.Checks.{passes}
 use Rattle.table.proofs.Passes.{passes_rules}
 use Rattle.schedule.specs.declared.Worker.{Worker}
-use Rattle.schedule.specs.Links.{Links}
 use Rattle.schedule.specs.Memory.{count_in}
 use Rattle.table.specs.Rules.{Rules}
 use Rattle.schedule.specs.Record.{max_bytes, set_of, bytes_of, table_in}
 use Rattle.schedule.specs.Begin.{setting_passes}
-use Rattle.schedule.specs.Sound.{Common, common_sound, same_links}
+use Rattle.schedule.specs.Sound.{Common, common_sound}
 use Rattle.schedule.proofs.Sound.Tests.{common_exactly, blank_exactly}
 use Rattle.order.specs.Words.{all_below, all_in, filled}
 use Rattle.order.proofs.Words.{and_of, or_exactly, not_exactly, eqb_exactly, ltb_exactly, all_below_exactly, all_in_exactly, same_list_exactly, is_nothing_exactly}
@@ -30,6 +29,7 @@ use Rattle.deques.specs.DequeRecord.{blank_deques}
 use Rattle.deques.specs.DequeSound.{SoundDeques, threads_in, all_in_use, placed_deques, record_sound, deque_sound, is_blank_deques}
 use Rattle.deques.specs.Partition.{occurs, owned_by, InUse, AllInUse, ready_at, holds_at, PlacedDeques}
 use Rattle.deques.proofs.Counts.{counted_in, in_counted, count_append}
+pub use Rattle.schedule.proofs.Sound.Tests.{same_links_exactly}
 
 -- ---- the clauses on the deques
 
@@ -93,14 +93,6 @@ placed_exactly n status workers ds =
     )
 
 -- ---- a sound record
-
-pub same_links_exactly : (k l : Links) → (same_links k l ≡ true) ↔ (k ≡ l)
-unfolding same_links
-same_links_exactly k l =
-    Iff.trans (and_of (same_list_exactly k.left l.left) (and_of (same_list_exactly k.right l.right) (eqb_exactly k.head l.head))) (
-      (λ (a, (b, c)). λ x. record { left = a x; right = b x; head = c x }),
-      (λ e. (ap (λ (x : Links). x.left) e, (ap (λ (x : Links). x.right) e, ap (λ (x : Links). x.head) e))),
-    )
 
 -- the clauses with no word of the deques
 pub record_exactly : (r : DequeRun)

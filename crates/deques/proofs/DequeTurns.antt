@@ -27,13 +27,13 @@ use Rattle.schedule.proofs.Preservation.Moves.{restated, restated_facts}
 use Rattle.schedule.proofs.Preservation.Releases.{Acting, acting}
 use Rattle.schedule.proofs.Preservation.Turns.{either}
 use Rattle.schedule.proofs.Preservation.Ends.{owner_below_less}
-use Rattle.order.proofs.Words.{and_exactly}
 use Rattle.deques.specs.Deques.{Deque, deque, nothing, is_empty, bottom, place_of, own, robbed, Deques, over, goes_to, goes_on, let_go, DequeStep, act_deques, steal, deque_turn}
 use Rattle.deques.specs.Partition.{occurs, owned_by, ready_at, holds_at, PlacedDeques}
 use Rattle.schedule.proofs.SerialLive.{serial_live, listed_live}
 use Rattle.deques.proofs.ActCommon.{CommonIn, act_common}
 use Rattle.deques.proofs.Placed.{robbed_occurs, robbed_owned, robbed_in_use}
 use Rattle.deques.proofs.Kept.{ready_here, ready_there, holds_here, holds_there, one_is, none_is, pick_one, Releasing, pop, leaves, stops, forks, wakes, top_ready}
+pub use Rattle.schedule.proofs.Preservation.Ends.{waits_true as waits_status}
 
 -- ---- any kind of run: the list that it would have
 
@@ -74,11 +74,6 @@ taken_common T l p K w few below st c n q t b h e =
 pub record Kept (T : Table) (p K : ℕ) (D : Deques) : Type 0 where
   pub common : CommonIn T p K D.state
   pub placed : PlacedDeques T.threads D.state.status D.state.workers D.deques
-
-pub waits_status : (T : Table) (st : State) (u t : ℕ) → waits_for T st u t ≡ true → status_of st u ≡ waiting
-unfolding waits_for
-waits_status T st u t e =
-    eqb-true (status_of st u) waiting ((and_exactly (eqb (status_of st u) waiting) (is join (kind T (next_of st u)) && eqb (T.argument (next_of st u)) t)).0 e).0
 
 -- whether a thread waits for its child is the same once that has ended
 pub waits_same : (T : Table) (st : State) (w t u : ℕ) → t < length st.status → status_of st t ≡ held → waits_for T (with_list (without t st.list) (released w t ended st)) u t ≡ waits_for T st u t

@@ -13,6 +13,7 @@ use Rattle.deques.specs.Deques.{Deque, deque, nothing, kept, place_of, own, push
 use Rattle.deques.specs.Lines.{line, lines_of}
 use Rattle.deques.specs.Partition.{owned_by}
 use Rattle.deques.proofs.Placed.{lines_same}
+pub use Rattle.schedule.proofs.Linked.Actives.{left_of_after as left_of_at, without_after as without_at}
 
 -- worker w's deque among the others
 pub record Mine (w : ℕ) (ds : List Deque) : Type 0 where
@@ -73,16 +74,6 @@ pub lines_append : (held : ℕ → ℕ) (front ds : List Deque) → lines_of hel
 unfolding lines_of
 lines_append held [] ds = refl
 lines_append held (d ∷ front) ds = ap (line held d ++◌) (lines_append held front ds) ∙ sym (append_assoc (line held d) (lines_of held front) (lines_of held ds))
-
-pub left_of_at : (c t : ℕ) (k r : List ℕ) → (Memᴰ t k → ⊥) → left_of c t (k ++ t ∷ r) ≡ k ++ c ∷ t ∷ r
-unfolding left_of
-left_of_at c t [] r n = rw (eq-eqb t t refl)
-left_of_at c t (x ∷ k) r n = rw (ne_eqb x t (λ z. n (Memᴰ.head (sym z)))) (ap (x ∷◌) (left_of_at c t k r (λ m. n (Memᴰ.tail m))))
-
-pub without_at : (t : ℕ) (k r : List ℕ) → (Memᴰ t k → ⊥) → without t (k ++ t ∷ r) ≡ k ++ r
-unfolding without
-without_at t [] r n = rw (eq-eqb t t refl)
-without_at t (x ∷ k) r n = rw (ne_eqb x t (λ z. n (Memᴰ.head (sym z)))) (ap (x ∷◌) (without_at t k r (λ m. n (Memᴰ.tail m))))
 
 module _ (w : ℕ) (few : w < 16) (held held' : ℕ → ℕ) (same : (v : ℕ) → (v ≡ w → ⊥) → held' v ≡ held v) (front rest : List Deque) (k : List ℕ)
     (clear : owned_by w front ≡ 0) (alone : owned_by w rest ≡ 0) where

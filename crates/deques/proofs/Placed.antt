@@ -15,12 +15,9 @@ use Rattle.order.proofs.Words.{and_exactly}
 use Rattle.deques.specs.Deques.{Deque, deque, nothing, is_empty, bottom, above, kept, place_of, own, robbed}
 use Rattle.deques.specs.Lines.{line, lines_of}
 use Rattle.deques.specs.Partition.{occurs, owns, owned_by, InUse, AllInUse}
+pub use Rattle.table.proofs.Nesting.{is_empty_true as empty_is}
 
 -- ---- a deque that is kept or leaves
-
-pub empty_is : (l : List ℕ) → is_empty l ≡ true → l ≡ []
-empty_is [] e = refl
-empty_is (x ∷ l) e = no_way cc
 
 module _ (d : Deque) (ds : List Deque) where
   kept_occurs : (t : ℕ) → occurs t (kept d ds) ≡ count_in t d.threads + occurs t ds

@@ -1,12 +1,15 @@
 -- What stands behind check 32 of a record of DFDeques, and what its test says of a record.
-use mathlib.Core.Path.{◌≡◌, refl, sym, ap, ◌∙◌}
-use Prim.Native.Nat.{◌<◌}
+use Rattle.std.specs.Prelude.{None, Some}
+use mathlib.Core.Path.{◌≡◌, refl, ap, ◌∙◌}
+use Prim.Native.Nat.{ℕ, ◌<◌}
+use mathlib.Core.List.{List}
 use native.Mathlib.Omega.{arith}
-use mathlib.Core.Bool.{Bool, true, false, not}
+use mathlib.Core.Bool.{Bool, true, false}
 use borrow.Author.Tests.{not-false}
 use Rattle.schedule.specs.Record.{table_in, blank}
 use Rattle.schedule.specs.Parents.{Parents}
-use Rattle.soundness.specs.declared.Tested.{Tested}
+use Rattle.soundness.specs.Tested.{parents_if}
+use Rattle.soundness.proofs.Passed.{none_given, some_given}
 use Rattle.soundness.proofs.Noting.{parents_right}
 use Rattle.deques.specs.declared.DequeRun.{DequeRun}
 use Rattle.deques.specs.DequeRecord.{blank_deques}
@@ -15,10 +18,6 @@ use Rattle.deques.specs.DequeTurn.{unsound_deques}
 use Rattle.deques.proofs.DequeTests.{deque_sound_exactly, blank_deques_exactly}
 use Rattle.deques.proofs.DequeStores.{steady_fits}
 use Rattle.dfdeques.specs.DequePacking.{deques_tested}
-
-not_twice : (q : Bool) {b : Bool} → not (not q) ≡ b → q ≡ b
-not_twice true e = e
-not_twice false e = e
 
 blank_none : blank_deques.run.workers ≡ 0
 unfolding blank_deques blank
@@ -45,15 +44,16 @@ module _ (r : DequeRun) (e : unsound_deques r ≡ false) where
       go false i = (blank_deques_exactly r).0 (not-false (is_blank_deques r) (rw i at e))
 
 -- what the test of a record says of it
-module _ (r : DequeRun) {x : Tested} (e : x ≡ deques_tested r) where
-  pub deque_fails : not x.passed ≡ true → unsound_deques r ≡ true
+module _ (r : DequeRun) where
+  pub deque_fails : None ≡ deques_tested r → unsound_deques r ≡ true
   unfolding deques_tested
-  deque_fails h = not_twice (unsound_deques r) (ap (λ (y : Tested). not y.passed) (sym e) ∙ h)
+  deque_fails e = none_given (unsound_deques r) (parents_if (deque_sound r) (table_in r.run)) e
 
-  pub deque_passes : not x.passed ≡ false → unsound_deques r ≡ false
-  unfolding deques_tested
-  deque_passes h = not_twice (unsound_deques r) (ap (λ (y : Tested). not y.passed) (sym e) ∙ h)
+  module _ (parents : List ℕ) (e : Some parents ≡ deques_tested r) where
+    pub deque_passes : unsound_deques r ≡ false
+    unfolding deques_tested
+    deque_passes = (some_given (unsound_deques r) parents (parents_if (deque_sound r) (table_in r.run)) e).0
 
-  pub deque_parents : SoundDeques r → Parents (table_in r.run) x.parents
-  unfolding deques_tested
-  deque_parents h = parents_right (table_in r.run) (ap (λ (y : Tested). y.parents) e ∙ rw ((deque_sound_exactly r).1 h))
+    pub deque_parents : SoundDeques r → Parents (table_in r.run) parents
+    unfolding deques_tested
+    deque_parents h = parents_right (table_in r.run) ((some_given (unsound_deques r) parents (parents_if (deque_sound r) (table_in r.run)) e).1 ∙ rw ((deque_sound_exactly r).1 h))

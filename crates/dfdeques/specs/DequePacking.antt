@@ -1,7 +1,7 @@
 -- What a record of DFDeques is in the memory on which turns are taken, and the record read back; what its test by value answers.
-use Rattle.std.specs.Prelude.{ℕ, List, not}
+use Rattle.std.specs.Prelude.{ℕ, List, Option, None, Some}
+use Rattle.table.specs.Sum.{pick}
 use Rattle.schedule.specs.Record.{table_in}
-use Rattle.soundness.specs.declared.Tested.{Tested}
 use Rattle.soundness.specs.Tested.{parents_if}
 use Rattle.run_memory.specs.Memory.{Memory, moved_in}
 use Rattle.run_memory.specs.Packing.{memory_with, record_of}
@@ -18,6 +18,6 @@ deque_memory r parents = memory_with r.run parents (bottoms_in r)
 abbrev pub deque_record_of : DequeRun → Memory → DequeRun
 deque_record_of r M = record { run = record_of r.run M; under = M.arrays.under; over = M.arrays.over; first = (moved_in M).totals.first }
 
--- 32, "record not sound and not blank"; the parents where it is sound
-unfoldable pub deques_tested : DequeRun → Tested
-deques_tested r = record { passed = not (unsound_deques r); parents = parents_if (deque_sound r) (table_in r.run) }
+-- nothing where 32 applies, "record not sound and not blank"; else the parents, those of the blank record 0
+unfoldable pub deques_tested : DequeRun → Option (List ℕ)
+deques_tested r = pick (unsound_deques r) None (Some (parents_if (deque_sound r) (table_in r.run)))

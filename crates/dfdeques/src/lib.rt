@@ -13,7 +13,7 @@ ghost use Rattle.deques.specs.DequeRuns.{deque_ran, pairs_run};
 ghost use Rattle.deques.specs.DequeValues.{deque_turning_values, deque_turn_values, pairs_values};
 
 use asyncdf::report_of;
-use deques::{DequeBegun, DequeRan, DequeRun, DequeTurned };
+use deques::{DequeBegun, DequeRan, DequeRun, DequeTurned};
 use links::NO_THREAD;
 use packing::{pack_deques, unpack_deques};
 use schedule::Report;
@@ -69,11 +69,9 @@ pub fn deque_turn(run: DequeRun, w: u8, c: u8) -> DequeTurned
     ensures value { result ≡ turned_of run w c }
     ensures answer_value { deque_turning_values result.answer ≡ deque_turn_values run w c }
 {
-    let tested = deque_test(run);
-    if !tested.passed {
+    let Some(parents) = deque_test(run) else {
         return refused(32, run);
-    }
-    let parents = tested.parents;
+    };
     let record = run.run;
     let length = record.length as usize;
     let table = record.table;
@@ -131,11 +129,9 @@ pub fn run_pairs(run: DequeRun, order: &[u8]) -> DequeRan
     ensures value { result ≡ pairs_run run order.now }
     ensures report_value { report_values result.report ≡ pairs_values run order.now }
 {
-    let tested = deque_test(run);
-    if !tested.passed {
+    let Some(parents) = deque_test(run) else {
         return unsound(run);
-    }
-    let parents = tested.parents;
+    };
     let record = run.run;
     let length = record.length as usize;
     let table = record.table;

@@ -1,24 +1,21 @@
 // Check 32 of a record of DFDeques by value: the copy of the table in the record, then the parts.
-ghost use Rattle.std.specs.Prelude.{◌≡◌};
+ghost use Rattle.std.specs.Prelude.{◌≡◌, None, Some};
+ghost use Rattle.table.specs.Sum.{pick};
 ghost use Rattle.schedule.specs.Record.{table_in};
-ghost use Rattle.soundness.specs.Tested.{parents_if};
+ghost use Rattle.soundness.specs.Tested.{parents_in};
 ghost use Rattle.deques.specs.DequeSound.{deque_sound, is_blank_deques};
 ghost use Rattle.dfdeques.specs.DequePacking.{deques_tested};
 
 use deques::DequeRun;
 use dequetest::{deque_blank_in, deque_test_in};
-use soundness::{Tested, bytes_rest, copy_sound};
+use soundness::{bytes_rest, copy_sound};
 
-fn sound(run: DequeRun) -> Tested
-    ensures { result ≡ record { passed = deque_sound run; parents = parents_if (deque_sound run) (table_in run.run) } }
+fn sound(run: DequeRun) -> Option<[u16; 1024]>
+    ensures { result ≡ pick (deque_sound run) (Some (parents_in (table_in run.run))) None }
 {
-    let mut parents = [0u16; 1024];
     let record = run.run;
     if !copy_sound(record) {
-        return Tested {
-            passed: false,
-            parents,
-        };
+        return None;
     }
     let length = record.length as usize;
     let table = record.table;
@@ -34,6 +31,7 @@ fn sound(run: DequeRun) -> Tested
     let mut rises = [0u64; 1024];
     let mut falls = [0u64; 1024];
     let mut forks = [0u16; 1024];
+    let mut parents = [0u16; 1024];
     let mut row = [0u16; 1024];
     let passed = deque_test_in(
         bytes,
@@ -59,7 +57,7 @@ fn sound(run: DequeRun) -> Tested
         &mut parents,
         &mut row,
     );
-    Tested { passed, parents }
+    if passed { Some(parents) } else { None }
 }
 
 fn is_blank(run: DequeRun) -> bool
@@ -101,16 +99,12 @@ fn is_blank(run: DequeRun) -> bool
     )
 }
 
-// 32 does not apply: the record is sound, or blank; each thread's parent where it is sound.
-pub fn deque_test(run: DequeRun) -> Tested
+// Where 32 does not apply, the record being sound or blank, each thread's parent.
+pub fn deque_test(run: DequeRun) -> Option<[u16; 1024]>
     ensures { result ≡ deques_tested run }
 {
-    let found = sound(run);
-    if found.passed {
-        return found;
+    if let Some(parents) = sound(run) {
+        return Some(parents);
     }
-    Tested {
-        passed: is_blank(run),
-        parents: [0; 1024],
-    }
+    if is_blank(run) { Some([0; 1024]) } else { None }
 }

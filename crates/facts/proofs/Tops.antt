@@ -1,6 +1,6 @@
 -- The walk over a body for its peak, against the thread that the body is of: its children count at their forks, and their amounts and peaks are in arrays.
 use mathlib.Core.Path.{◌≡◌, refl, sym, ◌∙◌}
-use Prim.Native.Nat.{ℕ, zero, suc, ◌+◌, ◌*◌, ◌≤◌, ◌<◌}
+use Prim.Native.Nat.{ℕ, suc, ◌+◌, ◌*◌, ◌≤◌, ◌<◌}
 use mathlib.Core.List.{List}
 use native.Mathlib.Omega.{arith}
 use lib.ListN.{get_or}
@@ -19,11 +19,7 @@ use Rattle.table.proofs.Amounts.{fork_part, fork_part_bound, fork_part_whole}
 use Rattle.table.proofs.Peaks.{peak_at, fork_part_held, peak_thread, peak_bound}
 use Rattle.table.proofs.Parts.{code_part, argument_part}
 use Rattle.table.proofs.Walks as walks
-
-pub greatest_to_cong : (f g : ℕ → ℕ) (k : ℕ) → ((i : ℕ) → i < k → f i ≡ g i) → greatest_to f k ≡ greatest_to g k
-unfolding greatest_to
-greatest_to_cong f g zero h = refl
-greatest_to_cong f g (suc k) h = omega (arith, greatest_to_cong f g k (λ i p. h i (omega arith)), h k (omega arith))
+use Rattle.table.proofs.Sums.{greatest_to_cong}
 
 -- an action's own amount: `alloc_of` and `free_of`, over the kind that is counted
 abbrev own_of : Table → Kind → ℕ → ℕ

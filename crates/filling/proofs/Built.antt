@@ -8,23 +8,16 @@ use mathlib.Core.Bool.{false}
 use lib.Dec.{eqb}
 use borrow.Author.Tests.{eq-eqb, ne_eqb}
 use lib.ListN.{length, get_or}
-use Rattle.table.specs.Sum.{sum_to}
 use Rattle.table.specs.Format.{is, Table, kind}
 use Rattle.table.specs.declared.kinds.Kind.TheVariants.{End as end}
 use Rattle.table.specs.Checks.{owner, end_of, kind_unknown, argument_wrong, differ, end_misplaced, open_before, join_not_latest, end_with_open}
 use Rattle.table.specs.Rules.{ContentRules, BodyRules}
-use Rattle.table.proofs.Bodies.{first_is, first_next, after_end, end_kind, owner_at, owner_below_lem, owner_first, owner_end}
+use Rattle.table.proofs.Bodies.{after_end, owner_at, owner_below_lem, owner_first, owner_end}
 use Rattle.table.specs.Written.{Action}
 use Rattle.table.proofs.ReadBack.{Reads, none, body_at}
 use Rattle.parts.proofs.Built.{body_inside, built_contents}
 use Rattle.filling.proofs.Bodies.{kind_in, each_at, EachBody, body_of, Fit, end_some, end_before, end_there, open_at, open_next, nests_at, Good}
-
-pub open_first : (T : Table) → ContentRules T → BodyRules T → (t : ℕ) → t < T.threads → open_before T (T.first t) ≡ []
-unfolding open_before sum_to
-open_first T c b zero h = rw (first_is T c zero h)
-open_first T c b (suc t) h =
-    let l : t < T.threads = omega arith in
-    rw (first_next T c t h, ← after_end T c t l, open_before, end_kind T c b t l)
+use Rattle.parts.proofs.CopyRules.{opens_first}
 
 module _ (U : Table) (bs : List (List Action)) (r : Reads U bs) where
   -- action i of body t
@@ -102,7 +95,7 @@ module _ (U : Table) (bs : List (List Action)) (r : Reads U bs) where
 
     open_at_lem : (t i : ℕ) → t < length bs → i < length (get_or bs t []) → open_before U (U.first t + i) ≡ open_at [] (get_or bs t []) i
     unfolding open_before
-    open_at_lem t zero h k = let p : U.first t + 0 ≡ U.first t = omega arith in rw p (open_first U contents bodies t (omega (arith, r.threads)))
+    open_at_lem t zero h k = let p : U.first t + 0 ≡ U.first t = omega arith in rw p (opens_first U contents bodies t (omega (arith, r.threads)))
     open_at_lem t (suc i) h k =
         let p : U.first t + suc i ≡ suc (U.first t + i) = omega arith in
         let l : i < length (get_or bs t []) = omega arith in

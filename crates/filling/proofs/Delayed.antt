@@ -34,24 +34,16 @@ use Rattle.filling.proofs.FilledOrder.{start_of, place_of, runs, expand, filled_
 use Rattle.filling.proofs.FilledTable.{Fits, any_false, fills, fill_rules}
 use Rattle.filling.proofs.Delay.{is_leaf, drawn_cost, Delay, Group, plain, delayed, Groups, no_group, group, Delayed}
 use Rattle.filling.proofs.Peak.{tree_quiet, Front, front_of, place_below, place_alloc, runs_quiet}
+use Rattle.order.proofs.Words.{ascends_back}
+use Rattle.table.proofs.Sums.{sum_over_zero}
 
 -- ---- lists
-
-ascends_back : (f : ℕ → ℕ) (s l : List ℕ) → Ascends f (s ++ l) → Ascends f l
-unfolding Ascends
-ascends_back f [] l p = p
-ascends_back f (x ∷ s) l p = ascends_back f s l p.1
 
 ascends_over : (f : ℕ → ℕ) (s l : List ℕ) (z : ℕ) → Ascends f (s ++ (z ∷ l)) → (y : ℕ) → Memᴰ y s → f y < f z
 unfolding Ascends
 ascends_over f [] l z p y m = absurd (Memᴰ.not-nil m)
 ascends_over f (x ∷ s) l z p y m =
     ⊎_elim (λ (e : y ≡ x). rw e (p.0 z (Memᴰ.append_right s (Memᴰ.head refl)))) (λ i. ascends_over f s l z p.1 y i) (Memᴰ.cases_cons m)
-
-sum_none : (f : ℕ → ℕ) (l : List ℕ) → ((a : ℕ) → Memᴰ a l → f a ≡ 0) → sum_over f l ≡ 0
-unfolding sum_over
-sum_none f [] e = refl
-sum_none f (x ∷ l) e = omega (arith, e x (Memᴰ.head refl), sum_none f l (λ a m. e a (Memᴰ.tail m)))
 
 -- an alloc within K costs at least itself
 small_cost : (T : Table) (K a : ℕ) → alloc_of T a ≤ K → alloc_of T a ≤ drawn_cost T K a
@@ -228,7 +220,7 @@ module _ (T : Table) (K : ℕ) (U : Table) (x : Fills T K U) where
           omega (
             arith,
             sum_over_append (alloc_of U) (y ∷ (S ++ (suc y ∷ []))) (p ∷ []),
-            sum_none (alloc_of U) (y ∷ (S ++ (suc y ∷ []))) quiet_front,
+            sum_over_zero (alloc_of U) (y ∷ (S ++ (suc y ∷ []))) quiet_front,
             place_alloc T K U x a h,
             sum_over_append cost (S ++ (suc y ∷ [])) (p ∷ []),
             sum_over_append cost S (suc y ∷ []),

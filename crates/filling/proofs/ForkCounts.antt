@@ -1,5 +1,5 @@
 -- Sums along bodies, and how often a thread is forked: rules 8 and 11 by counting.
-use Prim.Native.Nat.{ℕ, zero, suc, ◌+◌, ◌≤◌, ◌<◌}
+use Prim.Native.Nat.{ℕ, suc, ◌+◌, ◌≤◌, ◌<◌}
 use native.Mathlib.Omega.{arith}
 use native.Mathlib.Decide.{dec_lt, ℕ_discrete}
 use mathlib.Core.Path.{◌≡◌, refl, sym, ◌∙◌}
@@ -20,6 +20,7 @@ use Rattle.table.proofs.Bodies.{fork_above, fork_below_lem}
 use Rattle.table.specs.Written.{Action}
 use Rattle.table.proofs.ReadBack.{Reads, none}
 use Rattle.filling.proofs.Bodies.{kind_in}
+use Rattle.order.proofs.Totals.{sum_to_first, sum_to_term}
 
 -- ---- sums
 
@@ -37,19 +38,10 @@ unfolding sum_in
 sum_in_length [] = refl
 sum_in_length (x ∷ l) = omega (arith, sum_in_length l)
 
-pub sum_to_front : (f : ℕ → ℕ) (k : ℕ) → sum_to f (suc k) ≡ f 0 + sum_to (λ i. f (suc i)) k
-unfolding sum_to
-sum_to_front f zero = omega arith
-sum_to_front f (suc k) = omega (arith, sum_to_front f k)
-
 pub sum_in_to : (w : Action → ℕ) (l : List Action) (f : ℕ → ℕ) → ((i : ℕ) → i < length l → f i ≡ w (get_or l i none)) → sum_to f (length l) ≡ sum_in w l
 unfolding sum_in sum_to
 sum_in_to w [] f h = refl
-sum_in_to w (x ∷ l) f h = omega (arith, sum_to_front f (length l), h 0 (omega arith), sum_in_to w l (λ i. f (suc i)) (λ i k. h (suc i) (omega arith)))
-
-pub sum_to_term : (f : ℕ → ℕ) (x k : ℕ) → x < k → f x ≤ sum_to f k
-unfolding sum_to
-sum_to_term f x k h = omega (arith, sum_to_part f (suc x) k h)
+sum_in_to w (x ∷ l) f h = omega (arith, sum_to_first f (length l), h 0 (omega arith), sum_in_to w l (λ i. f (suc i)) (λ i k. h (suc i) (omega arith)))
 
 two_terms : (f : ℕ → ℕ) (x y k : ℕ) → x < y → y < k → f x + f y ≤ sum_to f k
 unfolding sum_to

@@ -22,8 +22,9 @@ use Rattle.table.specs.Written.{Action, action_at}
 use Rattle.filling.specs.Filled.{act, big, new_threads, new_actions, root_of, in_front, filled_from, filled_body, old_bodies, trees_along, filled_bodies}
 use Rattle.filling.proofs.Bodies.{Each, EachBody, bodies_append, Fit, EndLast, end_cons, Nests, Good}
 use Rattle.parts.proofs.Built.{flatten_append}
-use Rattle.filling.proofs.Built.{open_first}
-use Rattle.filling.proofs.ForkCounts.{sum_in, sum_in_append, sum_in_length, sum_to_front, up, fork_of, fork_in, forks_counted}
+use Rattle.order.proofs.Totals.{sum_to_first}
+use Rattle.parts.proofs.CopyRules.{opens_first}
+use Rattle.filling.proofs.ForkCounts.{sum_in, sum_in_append, sum_in_length, up, fork_of, fork_in, forks_counted}
 use Rattle.filling.proofs.Trees.{fit_fork, fit_join}
 use Rattle.filling.proofs.Roots.{so_all, all_serial, rooted_bound, roots, trees_length, trees_actions, trees_forks, trees_good, root_is}
 
@@ -58,7 +59,7 @@ module _ (T : Table) (K : ℕ) where
         arith,
         sum_in_append w (in_front T K a) (action_at T a ∷ filled_from T K (suc a) k),
         filled_sum w k (suc a),
-        sum_to_front (λ i. own_in w (a + i)) k,
+        sum_to_first (λ i. own_in w (a + i)) k,
         h,
         s,
       )
@@ -270,7 +271,7 @@ module _ (T : Table) (l : Lawful T) (K : ℕ) where
           record {
             fit = fit_from (T.count t) (T.first t) (omega arith) (omega arith);
             ends = ends (T.count t) refl;
-            nests = rw (open_first T l.contents l.bodies t known) at (nests_from (T.count t) (T.first t) (omega arith) (omega arith));
+            nests = rw (opens_first T l.contents l.bodies t known) at (nests_from (T.count t) (T.first t) (omega arith) (omega arith));
           }
         where
           ends : (k : ℕ) → T.count t ≡ k → EndLast (filled_from T K (T.first t) (T.count t))

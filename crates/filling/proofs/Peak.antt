@@ -1,22 +1,21 @@
 -- The serial peak of the filled-out table is that of the table as given: what runs in front of a big alloc neither draws nor gives back.
-use Prim.Native.Nat.{ℕ, suc, ◌+◌, ◌-◌, ◌≤◌, ◌<◌, max}
+use Prim.Native.Nat.{ℕ, suc, ◌+◌, ◌-◌, ◌≤◌, ◌<◌}
 use native.Mathlib.Omega.{arith}
 use mathlib.Core.Path.{◌≡◌, refl, sym, ap, subst, ◌∙◌}
 use mathlib.Core.List.Memᴰ
 use mathlib.Core.List.{List, [], ◌∷◌, ◌++◌, Memᴰ}
 use mathlib.Core.Bool.{Bool, true, false}
-use mathlib.Core.Logic.{◌⊎◌, ⊎_elim}
-use Rattle.table.specs.Sum.{pick, sum_over, greatest, any_below}
+use mathlib.Core.Logic.{⊎_elim}
+use Rattle.table.specs.Sum.{pick, any_below}
 use Rattle.table.specs.Format.{is, code_of, Table, table_of, kind}
-use Rattle.table.specs.declared.kinds.Kind.{Kind}
-use Rattle.table.specs.declared.kinds.Kind.TheVariants.{Alloc as alloc, Free as free, Fork as fork, Join as join}
+use Rattle.table.specs.declared.kinds.Kind.TheVariants.{Fork as fork, Join as join}
 use Rattle.table.specs.Checks.{owner, alloc_of, free_of}
 use Rattle.table.specs.Rules.{Rules}
-use Rattle.table.specs.Serial.{serial, serial_order, fronts, held_after, peak_of, S1}
+use Rattle.table.specs.Serial.{serial, serial_order, S1}
 use Rattle.table.proofs.Tests.{fork_no_end}
 use Rattle.table.proofs.Bodies.{owner_below_lem, owner_first, owner_end, owner_of_first, next_owner, fork_above, fork_below_lem, first_within}
 use Rattle.table.proofs.Serial.{serial_end, serial_fork, serial_step, serial_induction, serial_below}
-use Rattle.table.proofs.Peaks.{greatest_map}
+use Rattle.table.proofs.Peaks.{top_from, peak_of_top, no_amount}
 use Rattle.table.specs.Written.{written}
 use Rattle.filling.specs.Filled.{big, root_of, filled_bodies, filled_out}
 use Rattle.filling.proofs.Roots.{so_below}
@@ -24,21 +23,9 @@ use Rattle.filling.proofs.Fills.{Fills, c, b, root_in, quiet, placed_kind, place
 use Rattle.filling.proofs.FilledOrder.{start_of, place_of, runs, expand, start_is, place_is, place_in, filled_order}
 use Rattle.filling.proofs.FilledTable.{Fits, fills}
 
--- ---- lists (as table/proofs/Peaks has it, not pub)
-
-top_from : (ℕ → ℕ) → (ℕ → ℕ) → ℕ → ℕ → List ℕ → ℕ
-top_from up down u d [] = u - d
-top_from up down u d (x ∷ l) = max (u - d) (top_from up down (u + up x) (d + down x) l)
+-- ---- lists
 
 module _ (up down : ℕ → ℕ) where
-  top_fronts : (l : List ℕ) (u d : ℕ) (f : List ℕ → ℕ) → ((q : List ℕ) → f q ≡ u + sum_over up q - (d + sum_over down q))
-      → greatest f (fronts l) ≡ top_from up down u d l
-  unfolding top_from sum_over greatest fronts
-  top_fronts [] u d f h = omega (arith, h [])
-  top_fronts (x ∷ l) u d f h =
-      rw (greatest_map f (x ∷◌) (fronts l))
-      (omega (arith, h [], top_fronts l (u + up x) (d + down x) (λ q. f (x ∷ q)) (λ q. omega (arith, h (x ∷ q)))))
-
   -- what neither draws nor gives back leaves the highest amount as it is
   top_quiet : (s : List ℕ) (p : ℕ) (l : List ℕ) (u d : ℕ) → ((y : ℕ) → Memᴰ y s → (up y ≡ 0) × (down y ≡ 0))
       → top_from up down u d (s ++ (p ∷ l)) ≡ top_from up down u d (p ∷ l)
@@ -49,14 +36,6 @@ module _ (up down : ℕ → ℕ) where
       let e : u + up y ≡ u = omega arith in
       let f : d + down y ≡ d = omega arith in
       rw (e, f, top_quiet s p l u d (λ z m. h z (Memᴰ.tail m))) (omega arith)
-
-peak_of_top : (T : Table) (l : List ℕ) → peak_of T l ≡ top_from (alloc_of T) (free_of T) 0 0 l
-unfolding peak_of held_after
-peak_of_top T l = top_fronts (alloc_of T) (free_of T) l 0 0 (held_after T) (λ q. omega arith)
-
-no_amount : (T : Table) (a : ℕ) (k : Kind) → kind T a ≡ k → is alloc k ≡ false → is free k ≡ false → (alloc_of T a ≡ 0) × (free_of T a ≡ 0)
-unfolding alloc_of free_of
-no_amount T a k e p q = (rw (e, p), rw (e, q))
 
 module _ (T : Table) (K : ℕ) (U : Table) (x : Fills T K U) where
   -- from a new thread on, all that runs to its end is new

@@ -7,15 +7,14 @@ use Rattle.table.specs.Checks.{outside, passes}
 use Rattle.table.specs.Pass.{Pass, refusal, try_pass, first_found}
 use Rattle.order.specs.Words.{is_nothing}
 use Rattle.filling.specs.declared.Total.{Total}
-use Rattle.filling.specs.declared.Filling.{Filling}
 use Rattle.filling.specs.Filled.{big, filled_out, threads_to, actions_to, fill_pass}
 
--- the threads and actions of the filled-out table; 44 and zeros where it would pass a limit
-abbrev pub total_as : Table → ℕ → Result ⊤ Refusal → Total
-total_as T K (Ok _) = record { found = Ok tt; threads = threads_to T K T.actions; actions = actions_to T K T.actions }
-total_as T K (Err x) = record { found = Err x; threads = 0; actions = 0 }
+-- the threads and actions of the filled-out table; 44 where it would pass a limit
+abbrev pub total_as : Table → ℕ → Result ⊤ Refusal → Result Total Refusal
+total_as T K (Ok _) = Ok (record { threads = threads_to T K T.actions; actions = actions_to T K T.actions })
+total_as T K (Err x) = Err x
 
-abbrev pub total_of : Table → ℕ → Total
+abbrev pub total_of : Table → ℕ → Result Total Refusal
 total_of T K = total_as T K (try_pass (fill_pass T K))
 
 -- 21: "K outside its range", 1 to 16,777,215
@@ -30,9 +29,23 @@ fill_found s K = first_found (passes s ++ (quota_pass K ∷ fill_pass (table_of 
 abbrev pub fills_out : List ℕ → ℕ → Bool
 fills_out s K = is_nothing (fill_found s K) && any_below (big (table_of s) K) (table_of s).actions
 
--- what is found, and how many bytes the filled-out table has, 0 where nothing is filled out
-unfoldable pub filling_of : List ℕ → ℕ → Filling
-filling_of s K = record { found = fill_found s K; bytes = pick (fills_out s K) (length (filled_out s K)) 0 }
+-- a number of bytes, or what is found
+abbrev pub answer_as : Result ⊤ Refusal → ℕ → Result ℕ Refusal
+answer_as (Ok _) k = Ok k
+answer_as (Err r) k = Err r
+
+-- of such an answer: what is found, and the bytes, 0 where a check applies
+abbrev pub found_in : Result ℕ Refusal → Result ⊤ Refusal
+found_in (Ok k) = Ok tt
+found_in (Err r) = Err r
+
+abbrev pub bytes_in : Result ℕ Refusal → ℕ
+bytes_in (Ok k) = k
+bytes_in (Err r) = 0
+
+-- how many bytes the filled-out table has, 0 where nothing is filled out, or what is found
+unfoldable pub filling_of : List ℕ → ℕ → Result ℕ Refusal
+filling_of s K = answer_as (fill_found s K) (pick (fills_out s K) (length (filled_out s K)) 0)
 
 -- the lent buffer: the filled-out table at its start, the rest as it was; nothing is written where nothing is filled out or the room is too little
 unfoldable pub filled_into : List ℕ → ℕ → List ℕ → List ℕ
@@ -41,10 +54,6 @@ filled_into s K out = pick (fills_out s K && leb (length (filled_out s K)) (leng
 -- ---- the program
 
 -- the bytes of the table that runs, or what is found
-abbrev pub answer_as : Result ⊤ Refusal → ℕ → Result ℕ Refusal
-answer_as (Ok _) k = Ok k
-answer_as (Err r) k = Err r
-
 abbrev pub answer_of : List ℕ → ℕ → Result ℕ Refusal
 answer_of s K = answer_as (fill_found s K) (length (filled_out s K))
 

@@ -1,34 +1,23 @@
 // 44, counted before anything is built: the number of dummies reaches 16 million.
-ghost use Rattle.std.specs.Prelude.{◌≡◌, ◌<◌, ◌+◌, ◌-◌, ◌*◌, ◌/◌, ◌&&◌, ◌||◌, ltb, Err};
+ghost use Rattle.std.specs.Prelude.{◌≡◌, ◌<◌, ◌+◌, ◌-◌, ◌*◌, ◌/◌, ◌&&◌, ◌||◌, ltb};
 ghost use Rattle.table.specs.Format.{table_of};
 ghost use Rattle.table.specs.Checks.{alloc_of};
-ghost use Rattle.table.specs.Pass.{refusal};
 ghost use Rattle.table.specs.Sum.{pick, Read};
 ghost use Rattle.filling.specs.Filling.{total_of};
 
 use crate::Total;
-use table::kinds::ALLOC;
+use table::kinds::Kind;
 use table::{Refusal, read};
-
-pub(crate) fn refuse(number: u8, place: usize) -> Result<(), Refusal>
-    requires { place < 65536 }
-    ensures { result ≡ Err (refusal number place) }
-{
-    Err(Refusal {
-        number,
-        place: place as u16,
-    })
-}
 
 // What action a allocates.
 pub(crate) fn amount(table: &[u8], n: usize, a: usize) -> usize
     requires { n ≡ (table_of table.now).threads }
     ensures { Read (alloc_of (table_of table.now) a) 16777216 result }
 {
-    if read::code(table, n, a) != ALLOC {
-        return 0;
+    match read::kind(table, n, a) {
+        Kind::Alloc => read::argument(table, n, a),
+        _ => 0,
     }
-    read::argument(table, n, a)
 }
 
 // x / quota rounded up, for any quota.
@@ -79,7 +68,7 @@ fn is_full(x: usize, quota: usize, threads: usize, actions: usize) -> bool
 }
 
 // Over any bytes: 44 at the lowest action at which the filled-out table passes a limit, else its threads and actions.
-pub fn count(table: &[u8], quota: u32) -> Total
+pub fn count(table: &[u8], quota: u32) -> Result<Total, Refusal>
     ensures { result ≡ total_of (table_of table.now) quota }
 {
     let n = read::threads(table);
@@ -92,16 +81,8 @@ pub fn count(table: &[u8], quota: u32) -> Total
         threads += new_threads(x, most);
         actions += new_actions(x, most);
         if is_full(x, most, threads, actions) {
-            return Total {
-                found: refuse(44, a),
-                threads: 0,
-                actions: 0,
-            };
+            return Err(Refusal::new(44, a as u16));
         }
     }
-    Total {
-        found: Ok(()),
-        threads,
-        actions,
-    }
+    Ok(Total { threads, actions })
 }

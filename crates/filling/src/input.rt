@@ -5,8 +5,8 @@ ghost use Rattle.table.specs.Sum.{Read};
 ghost use Rattle.filling.specs.Filling.{answer_of, whole_into, answer_to, answered_in};
 
 use crate::fill_in;
-use table::read::{byte, word};
 use table::Refusal;
+use table::read::{byte, word};
 use text::put_word;
 
 // K, 24 bits.
@@ -29,16 +29,11 @@ fn fill_whole(table: &[u8], quota: u32, out: &mut [u8; 36868]) -> Result<usize, 
 {
     let mut rises = [0u64; 1024];
     let mut falls = [0u64; 1024];
-    let filling = fill_in(table, quota, out, &mut rises, &mut falls);
-    let found = filling.found;
-    if let Err(refusal) = found {
-        return Err(refusal);
+    let bytes = fill_in(table, quota, out, &mut rises, &mut falls)?;
+    if bytes == 0 {
+        return Ok(put_word(out, 0, table));
     }
-    if filling.bytes == 0 {
-        let k = put_word(out, 0, table);
-        return Ok(k);
-    }
-    Ok(filling.bytes)
+    Ok(bytes)
 }
 
 // The same of what `filltable` reads.
@@ -47,10 +42,7 @@ pub fn fill_input(input: &[u8], out: &mut [u8; 36868]) -> Result<usize, Refusal>
     ensures out_after { out.new ≡ answered_in input.now out.old }
 {
     if input.len() < 3 {
-        return Err(Refusal {
-            number: 33,
-            place: 0,
-        });
+        return Err(Refusal::new(33, 0));
     }
     fill_whole(&input[3..], quota_in(input), out)
 }

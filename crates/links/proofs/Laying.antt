@@ -89,9 +89,9 @@ laid_more l left right j h =
     }
 
 -- the same with the code's names: x stands right of place j, y left of it
-pub laid_on : (l left right left' right' : List ℕ) (i j x y : ℕ) → i ≡ j + 1 → LaidFrom l left right i → x ≡ head_of (drop i l) → y ≡ left_there l j
+pub laid_on : (l left right left' right' : List ℕ) (i j x y : ℕ) → i ≡ j + 1 → LaidFrom l left right i → x ≡ head_of (drop (j + 1) l) → y ≡ left_there l j
     → right' ≡ set right (get_or l j 0) x → left' ≡ set left (get_or l j 0) y → LaidFrom l left' right' j
-laid_on l left right left' right' i j x y e h a b p q = rw (p, q, a, b, e) (laid_more l left right j (rw e at h))
+laid_on l left right left' right' i j x y e h a b p q = rw (p, q, a, b) (laid_more l left right j (rw e at h))
 
 pub laid_done : (l left right : List ℕ) (i : ℕ) → LaidFrom l left right i → i ≤ 0 → (left ≡ (laid l).left) × (right ≡ (laid l).right)
 laid_done l left right i h z =

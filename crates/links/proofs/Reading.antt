@@ -61,7 +61,9 @@ module _ (right : List ℕ) (leftmost : ℕ) (before row : List ℕ) (t k : ℕ)
   pub written_out : no_thread ≤ t → (k ≡ length (walk (length before) right leftmost)) × (row ≡ walk (length before) right leftmost ++ drop k before)
   written_out b = ends_here (walk_out (length before - k) right t b)
 
-  pub written_over : length row ≤ k → (k ≡ length (walk (length before) right leftmost)) × (row ≡ walk (length before) right leftmost ++ drop k before)
-  written_over h =
+  pub written_all : length row ≤ k → (length row ≡ length (walk (length before) right leftmost)) × (row ≡ walk (length before) right leftmost ++ drop (length row) before)
+  written_all h =
       let z : length before - k ≡ 0 = omega (arith, w.size) in
-      ends_here (rw z (walk_over right t))
+      let e : k ≡ length row = omega (arith, w.size, w.within) in
+      let both = ends_here (rw z (walk_over right t)) in
+      (sym e ∙ both.0, both.1 ∙ ap (λ (n : ℕ). walk (length before) right leftmost ++ drop n before) e)

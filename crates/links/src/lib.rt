@@ -7,7 +7,6 @@ ghost use Rattle.schedule.specs.Links.{head_of, laid, link_last, no_thread, walk
 ghost use Rattle.schedule.specs.Actives.{filled_from, no_links};
 ghost use Rattle.links.specs.Code.Steps.{left_there};
 ghost use Rattle.schedule.specs.Sound.{same_links};
-ghost use Rattle.order.specs.Words.{same_list};
 
 use schedule::statuses::WAITING;
 
@@ -30,16 +29,14 @@ fn write_threads(right: &[u16; 1024], leftmost: u16, row: &mut [u16]) -> usize
     ensures row_after { row.new ≡ walk (length row.old) right.now leftmost ++ drop result row.old }
 {
     let mut t = leftmost;
-    let mut k = 0;
-    while k < row.len() {
+    for k in 0..row.len() {
         if NO_THREAD <= t {
-            break;
+            return k;
         }
         row[k] = t;
         t = right[t as usize];
-        k += 1;
     }
-    k
+    row.len()
 }
 
 // Reads the list into the front of a row, leftmost first, and gives its length.
@@ -78,12 +75,9 @@ fn lay_threads(row: &[u16], left: &mut [u16; 1024], right: &mut [u16; 1024])
     ensures left_after { left.new ≡ (laid row.now).left }
     ensures right_after { right.new ≡ (laid row.now).right }
 {
-    let mut i = row.len();
-    while 0 < i {
-        let x = thread_at(row, i);
-        i -= 1;
+    for i in (0..row.len()).rev() {
         let t = row[i];
-        put(right, t, x);
+        put(right, t, thread_at(row, i + 1));
         put(left, t, thread_before(row, i));
     }
 }
@@ -134,26 +128,13 @@ fn lay(row: &[u16; 1024], len: usize, left: &mut [u16; 1024], right: &mut [u16; 
     ensures right_after { right.new ≡ (laid (take len row.now)).right }
     ensures value { result ≡ (laid (take len row.now)).head }
 {
-    let count = if len < 1024 { len } else { 1024 };
+    let count = len.min(1024);
     let places = &row[..];
     let threads = &places[..count];
     clear(left);
     clear(right);
     lay_threads(threads, left, right);
     thread_at(threads, 0)
-}
-
-// Whether two rows of one length are the same.
-fn same(a: &[u16], b: &[u16]) -> bool
-    requires { length a.now ≡ length b.now }
-    ensures { result ≡ same_list a.now b.now }
-{
-    for i in 0..a.len() {
-        if a[i] != b[i] {
-            return false;
-        }
-    }
-    true
 }
 
 // Whether the links are those of the first len threads of a row.
@@ -169,11 +150,5 @@ pub fn describe(
     let mut lefts = [0u16; 1024];
     let mut rights = [0u16; 1024];
     let first = lay(row, len, &mut lefts, &mut rights);
-    if !same(left, &lefts) {
-        return false;
-    }
-    if !same(right, &rights) {
-        return false;
-    }
-    leftmost == first
+    *left == lefts && *right == rights && leftmost == first
 }

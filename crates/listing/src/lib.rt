@@ -87,11 +87,9 @@ pub fn rounds_line(input: &[u8], out: &mut [u8; 96]) -> usize
 pub fn list_turns(run: Run, order: &[u8], out: &mut [u8], at: usize) -> usize
     ensures { Puts out.old at out.new result (texts_of (list_turns run order.now)) (64 * (length order.now + 1)) }
 {
-    let tested = test(run);
-    if !tested.passed {
+    let Some(parents) = test(run) else {
         return put_refused(out, at, 32);
-    }
-    let parents = tested.parents;
+    };
     put_turns(false, run, &parents, order, out, at)
 }
 
@@ -100,15 +98,13 @@ pub fn list_turns(run: Run, order: &[u8], out: &mut [u8], at: usize) -> usize
 pub fn chart_turns(run: Run, order: &[u8], out: &mut [u8], at: usize) -> usize
     ensures { Puts out.old at out.new result (chart_turns run order.now) (85 * (length order.now + 2)) }
 {
-    let tested = test(run);
-    if !tested.passed {
+    let Some(parents) = test(run) else {
         return put_refused(out, at, 32);
-    }
+    };
     if MOST_TURNS < run.turns {
         return put_refused(out, at, 43);
     }
     let workers = run.worker;
     let at = put_line(out, at, run.turns, run.workers, workers, run.held);
-    let parents = tested.parents;
     put_turns(true, run, &parents, order, out, at)
 }

@@ -146,12 +146,12 @@ module _ (run : Run) (e : unsound run ≡ false) where
           ∙ ap (λ (x : Marked). x.marks) (mark_refines s M K packed_truths i y (λ q. z (ap (λ (x : Setting). x.number) f ∙ q)))
           ∙ ap (λ (r : Run). (set_as (try_at (set_checks (marked r (marks_in s K)) i) 0) i (marked r (marks_in s K))).marks) packed
 
-      pub set_after : {n : ℕ} {K' : Marks} → setting n K' ≡ lent_mark s i M K → parents ≡ (tested run).parents → K' ≡ marks_after run i K
+      pub set_after : {n : ℕ} {K' : Marks} → setting n K' ≡ lent_mark s i M K → parents ≡ parents_if (sound run) (table_in run) → K' ≡ marks_after run i K
       unfolding marks_after
       set_after f p =
           ap (λ (x : Setting). x.marks) f
           ∙ ap (λ (P : List ℕ). (lent_mark s i (memory_for run P) K).marks) p
-          ∙ sym (ap (λ (b : Bool). pick b K (lent_mark s i (memory_for run (tested run).parents) K).marks) e)
+          ∙ sym (ap (λ (b : Bool). pick b K (lent_mark s i (memory_for run (parents_if (sound run) (table_in run))) K).marks) e)
 
       pub back_number_lem : {n : ℕ} → n ≡ (lent_back s i M K).number → numbered n ≡ back_values (marked_by run K) i
       back_number_lem f = ap numbered f ∙ back_values_lem s M K packed_truths i ∙ ap (λ (r : Run). back_values (marked r (marks_in s K)) i) packed
@@ -259,7 +259,7 @@ module _ (run : Run) (e : unsound run ≡ true) (K : Marks) (i : ℕ) where
 
   pub unsound_after : K ≡ marks_after run i K
   unfolding marks_after
-  unsound_after = sym (ap (λ (b : Bool). pick b K (lent_mark (bytes_of run) i (memory_for run (tested run).parents) K).marks) e)
+  unsound_after = sym (ap (λ (b : Bool). pick b K (lent_mark (bytes_of run) i (memory_for run (parents_if (sound run) (table_in run))) K).marks) e)
 
   pub unsound_back : numbered 32 ≡ back_values (marked_by run K) i
   unfolding back_values
@@ -278,7 +278,7 @@ after_marks_lem run K i z y = go (unsound run) refl
     go : (q : Bool) → unsound run ≡ q → marks_in (bytes_of run) (marks_after run i K) ≡ (set_as (try_at (set_checks (marked_by run K) i) 0) i (marked_by run K)).marks
     go true e = ap (marks_in (bytes_of run)) (sym (unsound_after run e K i)) ∙ unsound_marks run e K i
     go false e =
-        let P : List ℕ = (tested run).parents in
+        let P : List ℕ = parents_if (sound run) (table_in run) in
         let x : Setting = lent_mark (bytes_of run) i (memory_for run P) K in
         ap (marks_in (bytes_of run)) (sym (set_after run e P K i {n = x.number} {K' = x.marks} refl refl))
         ∙ set_marks run e P K i {n = x.number} {K' = x.marks} refl (λ q. z) y

@@ -3,9 +3,10 @@ use Rattle.std.specs.Prelude.{ℕ, Bool, true, false, Err, Ok, Result, ⊤}
 use Rattle.table.specs.declared.Refusal.{Refusal}
 use Rattle.schedule.specs.declared.Run.{Run}
 use Rattle.table.specs.Sum.{pick}
-use Rattle.schedule.specs.Record.{bytes_of}
+use Rattle.schedule.specs.Record.{bytes_of, table_in}
+use Rattle.schedule.specs.Sound.{sound}
 use Rattle.schedule.specs.Turn.{unsound}
-use Rattle.soundness.specs.Tested.{tested}
+use Rattle.soundness.specs.Tested.{parents_if}
 use Rattle.run_memory.specs.Packing.{memory_for}
 use Rattle.marks.specs.Marks.{Marked, marked, MarkValues}
 use Rattle.wivakkol_marks.specs.LentMarks.{Marks, lent_mark}
@@ -27,4 +28,4 @@ marked_by run K = marked run (marks_in (bytes_of run) K)
 
 -- the lent memory after setting mark i, that of unset marks too: "Setting one stores the run as it is", with each thread's parent as the test of 32 gives it. Refused: the marks as they were
 unfoldable pub marks_after : Run → ℕ → Marks → Marks
-marks_after run i K = pick (unsound run) K (lent_mark (bytes_of run) i (memory_for run (tested run).parents) K).marks
+marks_after run i K = pick (unsound run) K (lent_mark (bytes_of run) i (memory_for run (parents_if (sound run) (table_in run))) K).marks

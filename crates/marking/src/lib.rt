@@ -277,8 +277,7 @@ pub fn set_mark(
     ensures marksums_after_2 { marks_of set.new markbytes.new markwords.new marknumbers.new marksums.new ≡ marks_after run i (marks_of set.old markbytes.old markwords.old marknumbers.old marksums.old) }
     ensures result_value_2 { is_done result ≡ eqb (marking_values result).number 0 }
 {
-    let tested = test(run);
-    if !tested.passed {
+    let Some(parents) = test(run) else {
         clear(
             sparebytes,
             sparewords,
@@ -296,8 +295,7 @@ pub fn set_mark(
             list,
         );
         return answer_of(32);
-    }
-    let parents = tested.parents;
+    };
     let number = set_packed(
         run,
         &parents,
@@ -370,8 +368,7 @@ pub fn go_back(
     ensures cleared { Cleared sparebytes.new sparewords.new sparenumbers.new sparesums.new next.new status.new amounts.new left.new right.new rises.new falls.new forks.new seen.new list.new }
     ensures answer_value_2 { is_done result.answer ≡ eqb (marking_values result.answer).number 0 }
 {
-    let tested = test(run);
-    if !tested.passed {
+    let Some(parents) = test(run) else {
         clear(
             sparebytes,
             sparewords,
@@ -392,8 +389,7 @@ pub fn go_back(
             answer: answer_of(32),
             run,
         };
-    }
-    let parents = tested.parents;
+    };
     let packed = back_packed(
         run,
         &parents,

@@ -10,6 +10,7 @@ use Rattle.table.specs.Pass.{or_else, refusal, try_at, try_from, try_pass, first
 use Rattle.table.specs.Rules.{Rules}
 use Rattle.table.specs.declared.Refusal.{Refusal}
 use Rattle.table.proofs.Sizes.{inside}
+use Rattle.table.proofs.Tests.{no_way}
 use Rattle.table.proofs.Trying.{or_else_last}
 use Rattle.table.proofs.Passes.{first_found_append}
 use Rattle.order.specs.Turns.{turns_of}
@@ -71,27 +72,29 @@ module _ (s : List ℕ) (p K : ℕ) where
       found_full : first_found (begin_passes T p K) ≡ try_pass (fill_pass T K)
       found_full = found_begin ∙ rw (settings_silent, or_else_last (try_pass (fill_pass T K)))
 
-      module _ (t : Total) (e : t ≡ total_of T K) where
-        found_of : (f : Result ⊤ Refusal) → (total_as T K f).found ≡ f
-        found_of (Ok _) = refl
-        found_of (Err x) = refl
+      -- the answer of the count
+      module _ (a : Result Total Refusal) (e : a ≡ total_of T K) where
+        found_by : (f : Result ⊤ Refusal) {r : Refusal} → Err r ≡ total_as T K f → f ≡ Err r
+        found_by (Ok _) h = no_way (cc)
+        found_by (Err x) h = cc
 
-        found_total : t.found ≡ try_pass (fill_pass T K)
-        found_total = ap (λ (x : Total). x.found) e ∙ found_of (try_pass (fill_pass T K))
+        silent_by : (f : Result ⊤ Refusal) {t : Total} → Ok t ≡ total_as T K f → (f ≡ Ok tt) × (t ≡ record { threads = threads_to T K T.actions; actions = actions_to T K T.actions })
+        silent_by (Ok _) h = (refl, cc)
+        silent_by (Err x) h = no_way (cc)
 
-        pub too_full : (r : Refusal) → t.found ≡ Err r → Err r ≡ own_most s p K
+        pub too_full : {r : Refusal} → a ≡ Err r → Err r ≡ own_most s p K
         unfolding own_most
-        too_full r q = rw (found_full, ← found_total, q)
+        too_full q = rw (found_full, found_by (try_pass (fill_pass T K)) (sym q ∙ e))
 
-        module _ (q : t.found ≡ Ok tt) where
+        module _ {t : Total} (q : a ≡ Ok t) where
           silent : try_pass (fill_pass T K) ≡ Ok tt
-          silent = sym found_total ∙ q
+          silent = (silent_by (try_pass (fill_pass T K)) (sym q ∙ e)).0
 
           threads_are : t.threads ≡ threads_to T K T.actions
-          threads_are = rw (e, silent)
+          threads_are = ap (λ (x : Total). x.threads) (silent_by (try_pass (fill_pass T K)) (sym q ∙ e)).1
 
           actions_are : t.actions ≡ actions_to T K T.actions
-          actions_are = rw (e, silent)
+          actions_are = ap (λ (x : Total). x.actions) (silent_by (try_pass (fill_pass T K)) (sym q ∙ e)).1
 
           module _ (rules : Rules s) where
             some : 1 ≤ K

@@ -8,11 +8,12 @@ use mathlib.Core.Bool.{Bool, true, false}
 use lib.Dec.{eqb}
 use borrow.Author.Tests.{eq-eqb, ne_eqb, eqb-true}
 use Rattle.table.specs.Sum.{pick, sum_to}
-use Rattle.table.specs.Format.{is, kind_of, Table, kind, table_of}
-use Rattle.table.specs.declared.kinds.Kind.TheVariants.{Alloc as alloc, Join as join}
+use Rattle.table.specs.Format.{code_of, is, Table, kind, table_of}
+use Rattle.table.specs.declared.kinds.Kind.{Kind}
+use Rattle.table.specs.declared.kinds.Kind.TheVariants.{End as end, Work as work, Alloc as alloc, Free as free, Fork as fork, Join as join, Unknown as unknown}
 use Rattle.table.specs.Pass.{try_pass}
 use Rattle.table.specs.Rules.{Rules}
-use Rattle.table.proofs.Walks.{is_code}
+use Rattle.table.proofs.Tests.{other_is}
 use Rattle.order.specs.Turns.{turns_of}
 use Rattle.order.proofs.Lawful.{Lawful, lawful}
 use Rattle.order.proofs.Totals.{sum_to_bound}
@@ -24,20 +25,18 @@ use Rattle.most.specs.Code.Steps.{turns_at, Counted}
 
 -- ---- action by action
 
-module _ (T : Table) (a k : ℕ) (e : k ≡ T.code a) where
-  -- by its code: 2 is an alloc's, 5 a join's
-  turns_at_code : turns_at T a ≡ 1 + pick (eqb k 2) 1 0 + pick (eqb k 5) 1 0
-  unfolding turns_at kind_of
-  turns_at_code = rw (is_code 2 (T.code a) (omega arith), is_code 5 (T.code a) (omega arith), ← e)
+module _ (T : Table) (a : ℕ) (k : Kind) (e : k ≡ kind T a) where
+  pub at_alloc : k ≡ alloc → 2 ≡ turns_at T a
+  unfolding turns_at is code_of
+  at_alloc h = rw (← e, h)
 
-  pub at_alloc : k ≡ 2 → 2 ≡ turns_at T a
-  at_alloc h = rw (turns_at_code, eq-eqb k 2 h, ne_eqb k 5 (λ (q : k ≡ 5). absurd (omega arith)))
+  pub at_join : k ≡ join → 2 ≡ turns_at T a
+  unfolding turns_at is code_of
+  at_join h = rw (← e, h)
 
-  pub at_join : k ≡ 5 → 2 ≡ turns_at T a
-  at_join h = rw (turns_at_code, eq-eqb k 5 h, ne_eqb k 2 (λ (q : k ≡ 2). absurd (omega arith)))
-
-  pub at_other : (k ≡ 2 → ⊥) → (k ≡ 5 → ⊥) → 1 ≡ turns_at T a
-  at_other h j = rw (turns_at_code, ne_eqb k 2 h, ne_eqb k 5 j)
+  pub at_other : (k ≡ alloc → ⊥) → (k ≡ join → ⊥) → 1 ≡ turns_at T a
+  unfolding turns_at
+  at_other h j = rw (← e, other_is alloc k h, other_is join k j)
 
 -- m + A + J as a loop adds it up
 pub turns_sum : (T : Table) → sum_to (turns_at T) T.actions ≡ turns_of T
@@ -49,13 +48,17 @@ turns_sum T = go T.actions
     go (suc k) = omega (arith, go k)
 
 pub turns_at_few : (T : Table) (a : ℕ) → turns_at T a ≤ 2
-turns_at_few T a = omega (arith, turns_at_code T a (T.code a) refl, go (eqb (T.code a) 2) refl (eqb (T.code a) 5) refl)
+unfolding turns_at is code_of
+turns_at_few T a = go (kind T a)
   where
-    go : (b : Bool) → eqb (T.code a) 2 ≡ b → (c : Bool) → eqb (T.code a) 5 ≡ c → 1 + pick b 1 0 + pick c 1 0 ≤ 2
-    go true p true q = absurd (omega (arith, eqb-true (T.code a) 2 p, eqb-true (T.code a) 5 q))
-    go true p false q = omega arith
-    go false p true q = omega arith
-    go false p false q = omega arith
+    go : (k : Kind) → 1 + pick (is alloc k) 1 0 + pick (is join k) 1 0 ≤ 2
+    go end = omega arith
+    go work = omega arith
+    go alloc = omega arith
+    go free = omega arith
+    go fork = omega arith
+    go join = omega arith
+    go unknown = omega arith
 
 -- no action is an alloc and a join
 pub turns_few : (T : Table) → turns_of T ≤ 2 * T.actions

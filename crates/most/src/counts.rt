@@ -5,7 +5,8 @@ ghost use Rattle.table.specs.Sum.{Read};
 ghost use Rattle.order.specs.Turns.{turns_of};
 ghost use Rattle.most.specs.Code.Steps.{turns_at, Counted};
 
-use table::kinds::{ALLOC, JOIN};
+use filling::Total;
+use table::kinds::Kind;
 use table::read;
 
 // What action a counts: 1, and 1 more if it is an alloc or a join.
@@ -13,11 +14,11 @@ fn turns_at(table: &[u8], n: usize, a: usize) -> usize
     requires { n ≡ (table_of table.now).threads }
     ensures { Read (turns_at (table_of table.now) a) 3 result }
 {
-    let kind = read::code(table, n, a);
-    if kind == ALLOC {
-        return 2;
+    match read::kind(table, n, a) {
+        Kind::Alloc => 2,
+        Kind::Join => 2,
+        _ => 1,
     }
-    if kind == JOIN { 2 } else { 1 }
 }
 
 // m + A + J of the table as given.
@@ -33,12 +34,12 @@ fn given_turns(table: &[u8], n: usize, m: usize) -> usize
     turns
 }
 
-// m + A + J of the table that runs, of so many threads and actions: each new action counts 1, and each new thread is joined once.
-pub(crate) fn turns_of(table: &[u8], threads: usize, actions: usize) -> u32
-    requires { Counted (table_of table.now) threads actions }
-    ensures { Read (turns_of (table_of table.now) + (threads - (table_of table.now).threads) + (actions - (table_of table.now).actions)) 150000 result }
+// m + A + J of the table that runs, of so many threads and actions in total: each new action counts 1, and each new thread is joined once.
+pub(crate) fn turns_of(table: &[u8], total: Total) -> u32
+    requires { Counted (table_of table.now) total.threads total.actions }
+    ensures { Read (turns_of (table_of table.now) + (total.threads - (table_of table.now).threads) + (total.actions - (table_of table.now).actions)) 150000 result }
 {
     let n = read::threads(table);
     let m = read::actions(table);
-    (given_turns(table, n, m) + (threads - n) + (actions - m)) as u32
+    (given_turns(table, n, m) + (total.threads - n) + (total.actions - m)) as u32
 }

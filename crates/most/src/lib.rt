@@ -4,11 +4,9 @@
 mod counts;
 mod line;
 
-ghost use Rattle.std.specs.Prelude.{◌≡◌, ◌++◌, length, drop, replicate, Err};
+ghost use Rattle.std.specs.Prelude.{◌≡◌, ◌++◌, length, drop, replicate};
 ghost use Rattle.io.specs.Counts.{IsPrefixLen};
-ghost use Rattle.table.specs.Pass.{refusal};
 ghost use Rattle.table.specs.Rules.{Rules};
-ghost use Rattle.table.specs.Checks.{outside as is_outside};
 ghost use Rattle.most.specs.Most.{most_of, most_values_of, most_values_for};
 ghost use Rattle.most.specs.Line.{most_to, most_line};
 ghost use Rattle.most.specs.Code.Steps.{own_most};
@@ -16,7 +14,7 @@ ghost use Rattle.most.specs.Code.Steps.{own_most};
 use counts::turns_of;
 use filling::count::count;
 use line::{answer_line, answer_to};
-use table::Refusal;
+use table::{Refusal, outside};
 
 // p * (m + A + J) of the table that runs, at most 262,144; refused as a beginning with these is.
 pub fn most_turns(table: &[u8], p: u8, quota: u32) -> Result<u32, Refusal>
@@ -40,11 +38,8 @@ pub fn most_turns_in(
     ensures result_value { most_values_of result ≡ most_values_for table.now p quota }
     ensures rises_after { (rises.new ≡ replicate 1024 0) × (falls.new ≡ replicate 1024 0) }
 {
-    let found = checks::check_in(table, rises, falls);
-    match found {
-        Err(r) => Err(r),
-        Ok(()) => turns_for(table, p, quota),
-    }
+    checks::check_in(table, rises, falls)?;
+    turns_for(table, p, quota)
 }
 
 // The line that `maxturns` prints, from the bytes that it reads, and its length.
@@ -61,30 +56,12 @@ fn turns_for(table: &[u8], p: u8, quota: u32) -> Result<u32, Refusal>
     requires { Rules table.now }
     ensures { result ≡ own_most table.now p quota }
 {
-    if outside(16, p as u32) {
-        return refuse(20);
+    if outside(1, 16, p as usize) {
+        return Err(Refusal::new(20, 0));
     }
-    if outside(16777215, quota) {
-        return refuse(21);
+    if outside(1, 16777215, quota as usize) {
+        return Err(Refusal::new(21, 0));
     }
-    let total = count(table, quota);
-    let found = total.found;
-    match found {
-        Err(r) => Err(r),
-        Ok(()) => {
-            Ok((p as u32) * turns_of(table, total.threads, total.actions))
-        }
-    }
-}
-
-fn outside(high: u32, x: u32) -> bool
-    ensures { result ≡ is_outside 1 high x }
-{
-    x < 1 || high < x
-}
-
-pub(crate) fn refuse(number: u8) -> Result<u32, Refusal>
-    ensures { result ≡ Err (refusal number 0) }
-{
-    Err(Refusal { number, place: 0 })
+    let total = count(table, quota)?;
+    Ok((p as u32) * turns_of(table, total))
 }

@@ -1,34 +1,21 @@
 // The line of `maxturns`: its input taken apart, and its answer put as text.
 ghost use Rattle.std.specs.Prelude.{◌≡◌, ◌≤◌, ◌++◌, length, drop};
-ghost use Rattle.table.specs.Sum.{Read};
-ghost use Rattle.most.specs.Line.{quota_in, most_to, limit_line, most_line};
+ghost use Rattle.most.specs.Line.{most_to, limit_line, most_line};
 
+use crate::most_turns;
 use table::Refusal;
-use crate::{most_turns, refuse};
-use table::read::{byte, word};
+use table::front::three_bytes;
+use table::read::byte;
 use text::{put_labelled, put_word};
-
-fn wide(x: u8) -> usize
-    ensures { Read x 256 result }
-{
-    x as usize
-}
-
-// K, 24 bits.
-fn quota_in(input: &[u8]) -> u32
-    ensures { result ≡ quota_in input.now }
-{
-    (word(input, 1) + 65536 * wide(byte(input, 3))) as u32
-}
 
 // Check 33, and the answer where it does not apply.
 pub(crate) fn answer_to(input: &[u8]) -> Result<u32, Refusal>
     ensures { result ≡ most_to input.now }
 {
     if input.len() < 8 {
-        return refuse(33);
+        return Err(Refusal::new(33, 0));
     }
-    most_turns(&input[8..], byte(input, 0), quota_in(input))
+    most_turns(&input[8..], byte(input, 0), three_bytes(input, 1))
 }
 
 fn limit_line(limit: u32, out: &mut [u8; 80]) -> usize

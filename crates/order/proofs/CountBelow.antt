@@ -1,25 +1,47 @@
 -- Counting by a test: the numbers below n that pass, and those that are in a list in which nothing stands twice.
 use mathlib.Core.Path.{◌≡◌, refl}
-use Prim.Native.Nat.{ℕ, suc, ◌+◌, ◌≤◌, ◌<◌}
+use Prim.Native.Nat.{ℕ, zero, suc, ◌+◌, ◌≤◌, ◌<◌}
 use native.Mathlib.Omega.{arith}
-use native.Mathlib.Decide.{dec_lt}
+use native.Mathlib.Decide.{dec_lt, ℕ_discrete}
 use mathlib.Core.List.{List, [], ◌∷◌, Memᴰ}
 use mathlib.Core.Bool.{Bool, true, false, ◌||◌}
 use lib.Dec.{eqb}
 use lib.ListN.{length}
 use borrow.Author.Tests.{eq-eqb, ne_eqb}
 use Rattle.table.specs.Sum.{pick, sum_to}
+use Rattle.table.proofs.Tests.{pick_most}
 use Rattle.table.proofs.Sums.{sum_to_le, sum_to_zero, sum_to_one}
 use Rattle.order.proofs.Totals.{one, sum_to_bound, sum_to_add}
 use Rattle.order.specs.Words.{member, count_below}
 use Rattle.order.proofs.Words.{never_true, member_exactly, Ascends}
 
 pub count_bound : (f : ℕ → Bool) (k : ℕ) → count_below f k ≤ k
-count_bound f k = omega (arith, sum_to_bound (λ i. pick (f i) 1 0) 1 k (λ i l. go (f i)))
+count_bound f k = omega (arith, sum_to_bound (λ i. pick (f i) 1 0) 1 k (λ i l. pick_most (f i) 1))
+
+-- where a test passes another does too
+pub count_le : (f g : ℕ → Bool) (n : ℕ) → ((i : ℕ) → f i ≡ true → g i ≡ true) → count_below f n ≤ count_below g n
+count_le f g n h = sum_to_le (λ i. pick (f i) 1 0) (λ i. pick (g i) 1 0) n (λ i l. go i (f i) refl)
   where
-    go : (t : Bool) → pick t 1 0 ≤ 1
-    go true = omega arith
-    go false = omega arith
+    go : (i : ℕ) (q : Bool) → f i ≡ q → pick q 1 0 ≤ pick (g i) 1 0
+    go i true e = rw (h i e) (omega arith)
+    go i false e = omega arith
+
+-- one more passes
+pub count_more : (f g : ℕ → Bool) (n i : ℕ) → i < n → ((i : ℕ) → f i ≡ true → g i ≡ true) → f i ≡ false → g i ≡ true → suc (count_below f n) ≤ count_below g n
+unfolding sum_to
+count_more f g zero i b h e d = absurd (omega arith)
+count_more f g (suc n) i b h e d = go (ℕ_discrete i n) (λ (c : i < n). count_more f g n i c h e d)
+  where
+    part : (q : Bool) → f n ≡ q → pick q 1 0 ≤ pick (g n) 1 0
+    part true y = rw (h n y) (omega arith)
+    part false y = omega arith
+
+    go : Dec (i ≡ n) → (i < n → suc (count_below f n) ≤ count_below g n) → suc (count_below f n + pick (f n) 1 0) ≤ count_below g n + pick (g n) 1 0
+    go (yes q) ih =
+        let x : f n ≡ false = rw q at e in
+        let y : g n ≡ true = rw q at d in
+        rw (x, y) (omega (arith, count_le f g n h))
+    go (no q) ih = omega (arith, ih (omega (arith, q)), part (f n) refl)
 
 -- at most one of them is x
 one_most : (x n : ℕ) → sum_to (one x) n ≤ 1

@@ -1,6 +1,5 @@
 -- A loop that asks a test of each number below a bound and stops at the first that fails it: what is known while all have passed, and what the answer is.
 use mathlib.Core.Path.{◌≡◌, refl, sym, ◌∙◌}
-use mathlib.Core.Logic.Iff
 use mathlib.Core.Logic.{inl, inr}
 use Prim.Native.Nat.{ℕ, ◌+◌, ◌≤◌, ◌<◌}
 use mathlib.Core.Bool.{Bool, true, false, not, ◌||◌, beq}
@@ -9,11 +8,8 @@ use native.Mathlib.Omega.{arith}
 use lib.Dec.{ltb}
 use borrow.Author.Tests.{not-true, not-false, lt-ltb, le-ltb}
 use Rattle.order.specs.Words.{agree, all_below}
-use Rattle.order.proofs.Words.{all_below_exactly, and_exactly, or_exactly, agree_exactly, agree_of, never_true, not_both}
-
--- two tests that are true together are the same
-pub same_truth : (s t : Bool) → (s ≡ true → t ≡ true) → (t ≡ true → s ≡ true) → s ≡ t
-same_truth s t f g = (agree_exactly s t).0 ((agree_of Iff.rfl Iff.rfl).1 (f, g))
+use Rattle.order.proofs.Words.{all_below_exactly, and_exactly, or_exactly, never_true, not_both}
+pub use Rattle.order.proofs.Words.{same_truth}
 
 pub beq_agree : (s t : Bool) → beq s t ≡ agree s t
 beq_agree true true = refl

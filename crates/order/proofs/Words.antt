@@ -8,7 +8,7 @@ use Prim.Native.Nat.{ℕ, zero, suc, ◌+◌, ◌≤◌, ◌<◌}
 use native.Mathlib.Omega.{arith}
 use native.Mathlib.Decide.{ℕ_discrete, dec_lt}
 use mathlib.Core.List.Memᴰ
-use mathlib.Core.List.{List, [], ◌∷◌, Memᴰ}
+use mathlib.Core.List.{List, [], ◌∷◌, ◌++◌, Memᴰ}
 use mathlib.Core.Bool.{Bool, true, false, not, ◌&&◌, ◌||◌}
 use lib.ListN.{length}
 use lib.Dec.{ltb, leb, eqb}
@@ -16,6 +16,7 @@ use borrow.Author.Tests.{ltb-true, lt-ltb, le-ltb, leb-true, le-leb, eqb-true, e
 use Rattle.table.specs.Sum.{pick, sum_to}
 use Rattle.table.proofs.Tests.{no_way}
 use Rattle.table.proofs.Sums.{sum_to_zero}
+pub use Rattle.std.proofs.lemmas.Bool.{false_from_ne_true as never_true, true_from_ne_false as never_false}
 use Rattle.order.specs.Words.{all_below, all_in, member, count_below, agree, place_in, rises_from, rises, same_list, is_nothing}
 
 -- ---- tests and truth values
@@ -49,29 +50,21 @@ and_of p q = Iff.trans (and_exactly _ _) (Iff.and p q)
 pub implies_of : {s t : Bool} {A B : Type 0} → (s ≡ true) ↔ A → (t ≡ true) ↔ B → ((not s || t) ≡ true) ↔ (A → B)
 implies_of p q = ((λ e a. q.0 ((implies_exactly _ _).0 e (p.1 a))), (λ h. (implies_exactly _ _).1 (λ e. q.1 (h (p.0 e)))))
 
+-- two tests that are true together are the same
+pub same_truth : (s t : Bool) → (s ≡ true → t ≡ true) → (t ≡ true → s ≡ true) → s ≡ t
+same_truth true t f g = sym (f refl)
+same_truth false true f g = g refl
+same_truth false false f g = refl
+
 pub agree_of : {s t : Bool} {A B : Type 0} → (s ≡ true) ↔ A → (t ≡ true) ↔ B → (agree s t ≡ true) ↔ (A ↔ B)
 agree_of {s} {t} p q = (
   (λ e. ((λ a. q.0 (sym ((agree_exactly _ _).0 e) ∙ p.1 a)), (λ b. p.0 ((agree_exactly _ _).0 e ∙ q.1 b)))),
-  (λ h. (agree_exactly _ _).1 (same s t (λ e. q.1 (h.0 (p.0 e))) (λ e. p.1 (h.1 (q.0 e))))),
+  (λ h. (agree_exactly _ _).1 (same_truth s t (λ e. q.1 (h.0 (p.0 e))) (λ e. p.1 (h.1 (q.0 e))))),
 )
-  where
-    same : (s t : Bool) → (s ≡ true → t ≡ true) → (t ≡ true → s ≡ true) → s ≡ t
-    same true t f g = sym (f refl)
-    same false true f g = g refl
-    same false false f g = refl
 
 pub pick_of : (c : Bool) {s t : Bool} {A B : Type 0} → (s ≡ true) ↔ A → (t ≡ true) ↔ B → (pick c s t ≡ true) ↔ ((c ≡ true → A) × (c ≡ false → B))
 pick_of true p q = ((λ e. ((λ h. p.0 e), (λ h. no_way (cc)))), (λ h. p.1 (h.0 refl)))
 pick_of false p q = ((λ e. ((λ h. no_way (cc)), (λ h. q.0 e))), (λ h. q.1 (h.1 refl)))
-
--- a test that is not true is false, and one that is not false is true
-pub never_true : (s : Bool) → (s ≡ true → ⊥) → s ≡ false
-never_true true h = absurd (h refl)
-never_true false h = refl
-
-pub never_false : (q : Bool) → (q ≡ false → ⊥) → q ≡ true
-never_false true n = refl
-never_false false n = absurd (n refl)
 
 pub not_both : (s : Bool) → s ≡ true → s ≡ false → ⊥
 not_both s e f = no_way (cc)
@@ -252,6 +245,16 @@ place_in_below x (y ∷ l) m = go (eqb x y) refl (Memᴰ.cases_cons m) (place_in
 unfoldable pub Ascends : (ℕ → ℕ) → List ℕ → Type 0
 Ascends f [] = Unit {0}
 Ascends f (x ∷ l) = ((y : ℕ) → Memᴰ y l → f x < f y) × Ascends f l
+
+pub ascends_front : (f : ℕ → ℕ) (k l : List ℕ) → Ascends f (k ++ l) → Ascends f k
+unfolding Ascends
+ascends_front f [] l a = tt
+ascends_front f (x ∷ k) l a = ((λ y m. a.0 y (Memᴰ.append_left l m)), ascends_front f k l a.1)
+
+pub ascends_back : (f : ℕ → ℕ) (k l : List ℕ) → Ascends f (k ++ l) → Ascends f l
+unfolding Ascends
+ascends_back f [] l a = a
+ascends_back f (x ∷ k) l a = ascends_back f k l a.1
 
 module _ (f : ℕ → ℕ) where
   rises_tail : (x : ℕ) (l : List ℕ) → rises f (x ∷ l) ≡ true → rises f l ≡ true

@@ -134,11 +134,9 @@ fn unsound(run: Run, pace: Pace) -> PacedRan
 fn paced_run(run: Run, pace: Pace, order: &[u8], rounds: bool, limit: usize) -> PacedRan
     ensures { result ≡ paced_run (paced_worker order.now rounds) rounds limit run pace }
 {
-    let tested = test(run);
-    if !tested.passed {
+    let Some(parents) = test(run) else {
         return unsound(run, pace);
-    }
-    let parents = tested.parents;
+    };
     let length = run.length as usize;
     let table = run.table;
     let table = &table[..length];

@@ -21,7 +21,7 @@ use Rattle.table.proofs.NestedThreads.{nest_root, nest_child}
 use Rattle.parts.specs.Copies.{renamed, Copies, place_of}
 use Rattle.parts.proofs.CopyLaws.{copy_child, copy_within, copy_kind, copy_owner}
 
-opens_first : (T : Table) → ContentRules T → BodyRules T → (t : ℕ) → t < T.threads → open_before T (T.first t) ≡ []
+pub opens_first : (T : Table) → ContentRules T → BodyRules T → (t : ℕ) → t < T.threads → open_before T (T.first t) ≡ []
 unfolding open_before sum_to
 opens_first T c b zero h = rw (first_is T c zero h)
 opens_first T c b (suc t) h =

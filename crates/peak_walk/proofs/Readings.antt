@@ -67,6 +67,19 @@ module _ (s : List ℕ) (n a k : ℕ) (e : n ≡ threads_of s) (c : k ≡ code_a
     unfolding table_of free_of
     free_read y h = h ∙ rw (c, f, e)
 
+-- the same by the list of actions that the table's bytes hold
+pub read_code : (l s : List ℕ) (n a : ℕ) {k : ℕ} → l ≡ bodies_from s n → k ≡ code_at l a → k ≡ code_at (bodies_from s n) a
+read_code l s n a e h = rw e at h
+
+pub read_argument : (l s : List ℕ) (n a : ℕ) {x : ℕ} → l ≡ bodies_from s n → x ≡ argument_at l a → x ≡ argument_at (bodies_from s n) a
+read_argument l s n a e h = rw e at h
+
+pub may_in : (l s : List ℕ) (n a : ℕ) (resting q : Bool) → l ≡ bodies_from s n → q ≡ may_after (code_at l) resting a → q ≡ may_after (code_at (bodies_from s n)) resting a
+may_in l s n a resting q e h = rw e at h
+
+pub ends_in : (K : Kind) (k : ℕ) (q : Bool) → K ≡ kind_of k → q ≡ (is end K || is fork K) → q ≡ (is end (kind_of k) || is fork (kind_of k))
+ends_in K k q e h = rw e at h
+
 pub drawn_read : (s : List ℕ) (K a x y : ℕ) → x ≡ alloc_of (table_of s) a → y ≡ drawn K x → y ≡ drawn_at (table_of s) K a
 drawn_read s K a x y e h = h ∙ ap (drawn K) e
 

@@ -14,7 +14,7 @@ use Rattle.schedule.specs.Sound.{balance_to}
 use Rattle.order.proofs.Lawful.{Lawful}
 use Rattle.peaks.specs.Peak.{fresh, final, gain, one_more, most, peak_there, peak_on}
 use Rattle.peaks.specs.Rests.{stretch_begins, rests}
-use Rattle.peaks.proofs.Opens.{greatest_same}
+use Rattle.table.proofs.Sums.{greatest_to_cong}
 use Rattle.peaks.proofs.Peaks.{peak_is}
 use Rattle.peaks.proofs.PeakSizes.{final_whole, peak_whole, place_whole, open_whole}
 use Rattle.peak_walk.specs.Peaked.{standing}
@@ -228,7 +228,7 @@ module _ (T : Table) (l : Lawful T) (small : (a : ℕ) → T.argument a < 167772
     place_next =
         let n : Rows (kind T a) (opened (kind T a) x cs) (rows_after peaks finals r (kind T a) x w.depth w.rows) = rows_next (kind T a) refl in
         let tops : row_greatest (rows_after peaks finals r (kind T a) x w.depth w.rows) (depth_after (kind T a) w.depth) r ≡ greatest_to (gain T P r (opened (kind T a) x cs)) (suc r) =
-        greatest_same _ _ (suc r) (λ j b. rw n.depth (top_row T P r (rows_after peaks finals r (kind T a) x w.depth w.rows) (opened (kind T a) x cs) low n.none n.open_rows j (omega arith))) in
+        greatest_to_cong _ _ (suc r) (λ j b. rw n.depth (top_row T P r (rows_after peaks finals r (kind T a) x w.depth w.rows) (opened (kind T a) x cs) low n.none n.open_rows j (omega arith))) in
         let e : balance_after finals (kind T a) x w.balance
         + max (row_greatest (rows_after peaks finals r (kind T a) x w.depth w.rows) (depth_after (kind T a) w.depth) r) (extra_after peaks r (kind T a) x w.depth w.rows)
         ≡ peak_there T P t r (suc k) =

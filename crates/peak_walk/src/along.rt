@@ -1,15 +1,15 @@
 // What is read off the actions one by one, for any bytes: the largest draw of a stretch, and R.
 ghost use Rattle.std.specs.Prelude.{◌≡◌, ◌+◌, ◌<◌, ◌||◌};
 ghost use Rattle.table.specs.Sum.{pick};
-ghost use Rattle.table.specs.Format.{kind_of, is, table_of};
+ghost use Rattle.table.specs.Format.{is, table_of};
 ghost use Rattle.table.specs.declared.kinds.Kind.TheVariants.{End as end, Fork as fork};
 ghost use Rattle.schedule.specs.Machine.{drawn};
 ghost use Rattle.peaks.specs.Rests.{stretch as stretch_of};
 ghost use Rattle.peak_walk.specs.Along.{rise_along};
 
-use crate::walk::{less, may_after};
-use table::kinds::{END, FORK, alloc_of, free_of};
-use table::{larger, read};
+use crate::walk::may_after;
+use table::kinds::Kind;
+use table::read;
 
 // A sum that starts again.
 fn since(again: bool, sum: u64, x: u64) -> u64
@@ -20,13 +20,11 @@ fn since(again: bool, sum: u64, x: u64) -> u64
 }
 
 // A stretch ends with an end or a fork.
-fn ends_stretch(k: u8) -> bool
-    ensures { result ≡ (is end (kind_of k) || is fork (kind_of k)) }
+#[tactic(auto, unfolding(table::specs::Format::is, table::specs::Format::code_of))]
+fn ends_stretch(kind: Kind) -> bool
+    ensures { result ≡ (is end kind || is fork kind) }
 {
-    if k == END {
-        return true;
-    }
-    k == FORK
+    matches!(kind, Kind::End | Kind::Fork)
 }
 
 // What an alloc of x takes from the quota.
@@ -40,15 +38,15 @@ fn drawn_of(quota: u32, x: u64) -> u64
 pub fn stretch(table: &[u8], quota: u32) -> u64
     ensures { result ≡ stretch_of (table_of table.now) quota }
 {
-    let n = read::threads(table);
+    let actions = read::bodies(table, read::threads(table));
     let m = read::actions(table);
-    let mut best = 0;
+    let mut best = 0u64;
     let mut before = 0;
     for a in 0..m {
-        let k = read::code(table, n, a);
-        let x = drawn_of(quota, alloc_of(k, read::argument(table, n, a)));
-        best = larger(best, before + x);
-        before = since(ends_stretch(k), before, x);
+        let action = read::action_in(actions, a);
+        let x = drawn_of(quota, action.alloc());
+        best = best.max(before + x);
+        before = since(ends_stretch(action.kind()), before, x);
     }
     best
 }
@@ -57,18 +55,17 @@ pub fn stretch(table: &[u8], quota: u32) -> u64
 pub fn rise(table: &[u8]) -> u64
     ensures { result ≡ rise_along (table_of table.now) }
 {
-    let n = read::threads(table);
+    let actions = read::bodies(table, read::threads(table));
     let m = read::actions(table);
-    let mut best = 0;
-    let mut up = 0;
-    let mut down = 0;
+    let mut best = 0u64;
+    let mut up = 0u64;
+    let mut down = 0u64;
     for a in 0..m {
-        best = larger(best, less(up, down));
-        let k = read::code(table, n, a);
-        let x = read::argument(table, n, a);
-        let rests = may_after(table, n, true, a);
-        up = since(rests, up, alloc_of(k, x));
-        down = since(rests, down, free_of(k, x));
+        best = best.max(up.saturating_sub(down));
+        let action = read::action_in(actions, a);
+        let rests = may_after(actions, true, a);
+        up = since(rests, up, action.alloc());
+        down = since(rests, down, action.free());
     }
     best
 }

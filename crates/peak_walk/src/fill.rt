@@ -22,9 +22,7 @@ fn fill_load(
     requires right { Right (table_of table.now) resting peaks.old finals.old rows.old r n }
     ensures { Right (table_of table.now) resting peaks.new finals.new rows.new r 0 }
 {
-    let mut t = n;
-    while 0 < t {
-        t -= 1;
+    for t in (0..n).rev() {
         let w = walk_body(table, n, t, r, resting, peaks, finals, rows);
         put(peaks, 17 * t + r, w.best);
         put(finals, t, w.balance);
@@ -45,10 +43,8 @@ pub(crate) fn peak_of(
     requires right { Right (table_of table.now) resting peaks.old finals.old rows.old 0 n }
     ensures { result ≡ peak_on (table_of table.now) (standing (table_of table.now) resting) 0 load }
 {
-    let mut r = 0;
-    while r <= load {
+    for r in 0..=load {
         fill_load(table, n, r, resting, peaks, finals, rows);
-        r += 1;
     }
     number(peaks, load)
 }

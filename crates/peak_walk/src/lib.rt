@@ -13,10 +13,10 @@ ghost use Rattle.peak_walk.specs.Peaked.{peaked, paralleled};
 use checks::check_in;
 use fill::peak_of;
 use parallel::best_of;
-use table::read::threads;
 use table::Refusal;
+use table::read::threads;
 
-// Over all places, or over resting places alone. The working memory may hold anything and is left cleared.
+// Over all places, or over resting places alone. The working memory may hold anything and is left cleared. Rows lie in flat arrays: C lends them, and there is no heap.
 pub fn peak_in(
     table: &[u8],
     load: u8,
@@ -49,10 +49,7 @@ fn answer(
 ) -> Result<u64, Refusal>
     ensures { result ≡ peaked table.now load resting }
 {
-    let found = check_in(table, rises, falls);
-    if let Err(r) = found {
-        return Err(r);
-    }
+    check_in(table, rises, falls)?;
     if 16 < load {
         return Err(Refusal {
             number: 20,
@@ -75,14 +72,15 @@ fn answer(
 }
 
 // The parallel peak: every open child at its best. The working memory may hold anything and is left cleared.
-pub fn parallel_in(table: &[u8], rises: &mut [u64; 1024], falls: &mut [u64; 1024]) -> Result<u64, Refusal>
+pub fn parallel_in(
+    table: &[u8],
+    rises: &mut [u64; 1024],
+    falls: &mut [u64; 1024],
+) -> Result<u64, Refusal>
     ensures value { result ≡ paralleled table.now }
     ensures rises_after { (rises.new ≡ replicate 1024 0) × (falls.new ≡ replicate 1024 0) }
 {
-    let found = check_in(table, rises, falls);
-    if let Err(r) = found {
-        return Err(r);
-    }
+    check_in(table, rises, falls)?;
     let peak = best_of(table, threads(table), &mut rises[..], &mut falls[..]);
     *rises = [0; 1024];
     *falls = [0; 1024];

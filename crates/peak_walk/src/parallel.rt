@@ -6,10 +6,9 @@ ghost use Rattle.peak_walk.specs.Code.Walk.{Accepted};
 ghost use Rattle.peak_walk.specs.Code.Parallel.{children_after, pass, passed_on, passed, Bests};
 
 use crate::row::{number, put};
-use crate::walk::{balance_after, less};
-use std::num::wrapping_add_u64;
-use table::kinds::{FORK, JOIN};
-use table::{larger, read};
+use crate::walk::balance_after;
+use table::kinds::Kind;
+use table::read::{self, Action};
 
 // The thread's balance so far, its open children at their best, and the most of its places so far.
 #[derive(Drop)]
@@ -19,28 +18,28 @@ struct Pass {
     most: u64,
 }
 
-fn children_after(bests: &[u64], k: u8, x: usize, children: u64) -> u64
-    ensures { result ≡ children_after bests.now (kind_of k) x children }
+#[tactic(auto, unfolding(crate::specs::Code::Parallel::children_after, table::specs::Format::is, table::specs::Format::code_of))]
+fn children_after(bests: &[u64], kind: Kind, x: usize, children: u64) -> u64
+    ensures { result ≡ children_after bests.now kind x children }
 {
-    if k == FORK {
-        return wrapping_add_u64(children, number(bests, x));
+    match kind {
+        Kind::Fork => children.wrapping_add(number(bests, x)),
+        Kind::Join => children.saturating_sub(number(bests, x)),
+        Kind::End | Kind::Work | Kind::Alloc | Kind::Free | Kind::Unknown => { children }
     }
-    if k == JOIN {
-        return less(children, number(bests, x));
-    }
-    children
 }
 
 // One action.
-fn pass_on(bests: &[u64], finals: &[u64], k: u8, x: usize, w: Pass) -> Pass
-    requires { x < 16777216 }
+fn pass_on(bests: &[u64], finals: &[u64], action: Action, w: Pass) -> Pass
+    requires { action.argument < 16777216 }
     ensures { pass result.balance result.children result.most
-        ≡ passed_on bests.now finals.now (kind_of k) x (pass w.balance w.children w.most) }
+        ≡ passed_on bests.now finals.now (kind_of action.code) action.argument (pass w.balance w.children w.most) }
 {
-    let last = w.most;
-    let balance = balance_after(finals, k, x, w.balance);
-    let children = children_after(bests, k, x, w.children);
-    let most = larger(last, wrapping_add_u64(balance, children));
+    let kind = action.kind();
+    let x = action.argument;
+    let balance = balance_after(finals, kind, x, w.balance);
+    let children = children_after(bests, kind, x, w.children);
+    let most = w.most.max(balance.wrapping_add(children));
     Pass {
         balance,
         children,
@@ -56,16 +55,15 @@ fn pass_body(table: &[u8], n: usize, t: usize, bests: &[u64], finals: &[u64]) ->
 {
     let first = read::first(table, t);
     let count = read::count(table, t);
+    let actions = read::bodies(table, n);
     let mut w = Pass {
         balance: 0,
         children: 0,
         most: 0,
     };
     for i in 0..count {
-        let a = first + i;
-        let k = read::code(table, n, a);
-        let x = read::argument(table, n, a);
-        w = pass_on(bests, finals, k, x, w);
+        let action = read::action_in(actions, first + i);
+        w = pass_on(bests, finals, action, w);
     }
     w
 }
@@ -76,9 +74,7 @@ pub(crate) fn best_of(table: &[u8], n: usize, bests: &mut [u64], finals: &mut [u
     requires bests { Bests (table_of table.now) bests.old finals.old n }
     ensures { result ≡ parallel_peak (table_of table.now) }
 {
-    let mut t = n;
-    while 0 < t {
-        t -= 1;
+    for t in (0..n).rev() {
         let w = pass_body(table, n, t, bests, finals);
         put(bests, t, w.most);
         put(finals, t, w.balance);

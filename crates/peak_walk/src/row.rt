@@ -2,9 +2,6 @@
 ghost use Rattle.std.specs.Prelude.{◌≡◌, suc, ◌≤◌, slice_index, slice_set};
 ghost use Rattle.peak_walk.specs.Code.Walk.{Small, row_value, pushed, row_greatest};
 
-use std::num::wrapping_add_u64;
-use table::larger;
-
 // The number at i, 0 where there is none.
 pub(crate) fn number(l: &[u64], i: usize) -> u64
     ensures { result ≡ slice_index l.now i }
@@ -34,16 +31,13 @@ fn row_value(
     requires { Small r c d × (j ≤ r) }
     ensures { result ≡ row_value peaks.now finals.now r c d rows.now j }
 {
-    let over = wrapping_add_u64(number(finals, c), number(rows, 17 * d + j));
+    let over = number(finals, c).wrapping_add(number(rows, 17 * d + j));
     if j == 0 {
         return over;
     }
     let fewer = j - 1;
     let unended = number(peaks, 17 * c + (r - fewer));
-    larger(
-        over,
-        wrapping_add_u64(unended, number(rows, 17 * d + fewer)),
-    )
+    over.max(unended.wrapping_add(number(rows, 17 * d + fewer)))
 }
 
 // Child c's row on row d.
@@ -58,11 +52,9 @@ pub(crate) fn push_row(
     requires { Small r c d }
     ensures { rows.new ≡ pushed peaks.now finals.now r c d rows.old (suc r) }
 {
-    let mut j = 0;
-    while j <= r {
+    for j in 0..=r {
         let v = row_value(peaks, finals, rows, r, c, d, j);
         put(rows, 17 * (d + 1) + j, v);
-        j += 1;
     }
 }
 
@@ -71,11 +63,9 @@ pub(crate) fn row_greatest(rows: &[u64], r: usize, d: usize) -> u64
     requires { Small r 0 d }
     ensures { result ≡ row_greatest rows.now d r }
 {
-    let mut best = 0;
-    let mut j = 0;
-    while j <= r {
-        best = larger(best, number(rows, 17 * d + j));
-        j += 1;
+    let mut best = 0u64;
+    for j in 0..=r {
+        best = best.max(number(rows, 17 * d + j));
     }
     best
 }

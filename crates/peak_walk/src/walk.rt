@@ -4,9 +4,8 @@ ghost use Rattle.table.specs.Format.{kind_of, code_at, argument_at, bodies_from,
 ghost use Rattle.peak_walk.specs.Code.Walk.{Small, balance_after, depth_after, rows_after, extra_after, walk as walk_of, stepped, may_after, walked};
 
 use crate::row::{number, push_row, row_greatest};
-use std::num::wrapping_add_u64;
-use table::kinds::{ALLOC, END, FORK, FREE, JOIN};
-use table::{larger, read};
+use table::kinds::Kind;
+use table::read::{self, Action};
 
 // The thread's balance so far, the best of its places so far, and how many of its children are open.
 #[derive(Drop)]
@@ -16,60 +15,60 @@ pub(crate) struct Walk {
     pub(crate) depth: usize,
 }
 
-pub(crate) fn less(a: u64, b: u64) -> u64
-    ensures { result ≡ a - b }
-{
-    if b < a { a - b } else { 0 }
-}
-
-pub(crate) fn balance_after(finals: &[u64], k: u8, x: usize, balance: u64) -> u64
+#[tactic(auto, unfolding(crate::specs::Code::Walk::balance_after, table::specs::Format::is, table::specs::Format::code_of))]
+pub(crate) fn balance_after(finals: &[u64], kind: Kind, x: usize, balance: u64) -> u64
     requires { x < 16777216 }
-    ensures { result ≡ balance_after finals.now (kind_of k) x balance }
+    ensures { result ≡ balance_after finals.now kind x balance }
 {
-    if k == ALLOC {
-        return wrapping_add_u64(balance, x as u64);
+    match kind {
+        Kind::Alloc => balance.wrapping_add(x as u64),
+        Kind::Free => balance.saturating_sub(x as u64),
+        Kind::Join => balance.wrapping_add(number(finals, x)),
+        Kind::End | Kind::Work | Kind::Fork | Kind::Unknown => balance,
     }
-    if k == FREE {
-        return less(balance, x as u64);
-    }
-    if k == JOIN {
-        return wrapping_add_u64(balance, number(finals, x));
-    }
-    balance
 }
 
-fn depth_after(k: u8, d: usize) -> usize
+#[tactic(auto, unfolding(crate::specs::Code::Walk::depth_after, table::specs::Format::is, table::specs::Format::code_of))]
+fn depth_after(kind: Kind, d: usize) -> usize
     requires { d ≤ 65536 }
-    ensures { result ≡ depth_after (kind_of k) d }
+    ensures { result ≡ depth_after kind d }
 {
-    if k == FORK {
-        return d + 1;
+    match kind {
+        Kind::Fork => d + 1,
+        Kind::Join => d.saturating_sub(1),
+        Kind::End | Kind::Work | Kind::Alloc | Kind::Free | Kind::Unknown => d,
     }
-    if k != JOIN {
-        return d;
-    }
-    if d == 0 { 0 } else { d - 1 }
 }
 
 // A forked child's row is written.
-fn rows_after(peaks: &[u64], finals: &[u64], rows: &mut [u64], r: usize, k: u8, x: usize, d: usize)
+#[tactic(auto, unfolding(crate::specs::Code::Walk::rows_after, table::specs::Format::is, table::specs::Format::code_of))]
+fn rows_after(
+    peaks: &[u64],
+    finals: &[u64],
+    rows: &mut [u64],
+    r: usize,
+    kind: Kind,
+    x: usize,
+    d: usize,
+)
     requires { Small r x d }
-    ensures { rows.new ≡ rows_after peaks.now finals.now r (kind_of k) x d rows.old }
+    ensures { rows.new ≡ rows_after peaks.now finals.now r kind x d rows.old }
 {
-    if k == FORK {
+    if matches!(kind, Kind::Fork) {
         push_row(peaks, finals, rows, r, x, d);
     }
 }
 
 // Right after a fork one child more may be unended.
-fn extra_after(peaks: &[u64], rows: &[u64], r: usize, k: u8, x: usize, d: usize) -> u64
+#[tactic(auto, unfolding(crate::specs::Code::Walk::extra_after, table::specs::Format::is, table::specs::Format::code_of))]
+fn extra_after(peaks: &[u64], rows: &[u64], r: usize, kind: Kind, x: usize, d: usize) -> u64
     requires { Small r x d }
-    ensures { result ≡ extra_after peaks.now r (kind_of k) x d rows.now }
+    ensures { result ≡ extra_after peaks.now r kind x d rows.now }
 {
-    if k != FORK {
+    if !matches!(kind, Kind::Fork) {
         return 0;
     }
-    wrapping_add_u64(number(peaks, 17 * x), number(rows, 17 * d + r))
+    number(peaks, 17 * x).wrapping_add(number(rows, 17 * d + r))
 }
 
 // One action, to a place where the thread may stand or may not.
@@ -79,20 +78,21 @@ fn step(
     rows: &mut [u64],
     r: usize,
     may: bool,
-    k: u8,
-    x: usize,
+    action: Action,
     w: Walk,
 ) -> Walk
-    requires { Small r x (suc w.depth) }
+    requires { Small r action.argument (suc w.depth) }
     ensures { walk_of result.balance result.best result.depth rows.new
-        ≡ stepped peaks.now finals.now r may (kind_of k) x (walk_of w.balance w.best w.depth rows.old) }
+        ≡ stepped peaks.now finals.now r may (kind_of action.code) action.argument (walk_of w.balance w.best w.depth rows.old) }
 {
+    let kind = action.kind();
+    let x = action.argument;
     let d = w.depth;
     let last = w.best;
-    let balance = balance_after(finals, k, x, w.balance);
-    let extra = extra_after(peaks, rows, r, k, x, d);
-    rows_after(peaks, finals, rows, r, k, x, d);
-    let depth = depth_after(k, d);
+    let balance = balance_after(finals, kind, x, w.balance);
+    let extra = extra_after(peaks, rows, r, kind, x, d);
+    rows_after(peaks, finals, rows, r, kind, x, d);
+    let depth = depth_after(kind, d);
     if !may {
         return Walk {
             balance,
@@ -100,8 +100,8 @@ fn step(
             depth,
         };
     }
-    let most = larger(row_greatest(rows, r, depth), extra);
-    let best = larger(last, wrapping_add_u64(balance, most));
+    let most = row_greatest(rows, r, depth).max(extra);
+    let best = last.max(balance.wrapping_add(most));
     Walk {
         balance,
         best,
@@ -110,21 +110,20 @@ fn step(
 }
 
 // The place after action a counts: it is a resting place, or all do.
-pub(crate) fn may_after(table: &[u8], n: usize, resting: bool, a: usize) -> bool
+#[tactic(auto, unfolding(crate::specs::Code::Walk::may_after, table::specs::Format::is, table::specs::Format::code_of))]
+pub(crate) fn may_after(actions: &[u8], resting: bool, a: usize) -> bool
     requires { a < 131072 }
-    ensures { result ≡ may_after (code_at (bodies_from table.now n)) resting a }
+    ensures { result ≡ may_after (code_at actions.now) resting a }
 {
     if !resting {
         return true;
     }
-    let k = read::code(table, n, a);
-    if k == END {
-        return true;
+    match read::action_in(actions, a).kind() {
+        Kind::End | Kind::Fork => true,
+        Kind::Work | Kind::Alloc | Kind::Free | Kind::Join | Kind::Unknown => {
+            matches!(read::action_in(actions, a + 1).kind(), Kind::Join)
+        }
     }
-    if k == FORK {
-        return true;
-    }
-    read::code(table, n, a + 1) == JOIN
 }
 
 // Thread t's body, at load r.
@@ -145,6 +144,7 @@ pub(crate) fn walk_body(
 {
     let first = read::first(table, t);
     let count = read::count(table, t);
+    let actions = read::bodies(table, n);
     let mut w = Walk {
         balance: 0,
         best: 0,
@@ -152,10 +152,9 @@ pub(crate) fn walk_body(
     };
     for i in 0..count {
         let a = first + i;
-        let may = may_after(table, n, resting, a);
-        let k = read::code(table, n, a);
-        let x = read::argument(table, n, a);
-        w = step(peaks, finals, rows, r, may, k, x, w);
+        let may = may_after(actions, resting, a);
+        let action = read::action_in(actions, a);
+        w = step(peaks, finals, rows, r, may, action, w);
     }
     w
 }

@@ -13,6 +13,7 @@ use Rattle.table.proofs.Sums.{sum_to_cong, sum_to_zero, sum_to_one}
 use Rattle.order.specs.Words.{count_below}
 use Rattle.order.proofs.Words.{never_true, and_exactly, not_exactly}
 use Rattle.order.proofs.CountBelow.{count_bound}
+use Rattle.table.proofs.Tests.{pick_most}
 
 pub few_targets : (m n : ℕ) (P Q : ℕ → Bool) (g : ℕ → ℕ) → ((t : ℕ) → t < n → P t ≡ true → (w : ℕ) × (w < m) × (Q w ≡ true) × (g w ≡ t)) → count_below P n ≤ count_below Q m
 unfolding sum_to
@@ -36,11 +37,7 @@ few_targets (suc m) n P Q g h = go (Q m) refl (λ P' k. few_targets m n P' Q g k
             triv false = refl
 
         at : Dec (g m < n) → count_below P n ≤ suc (count_below less n)
-        at (yes i) = omega (arith, sum_to_one (λ t. pick (P t) 1 0) (λ t. pick (less t) 1 0) (g m) n i (λ t j d. same t d), most (P (g m)))
-          where
-            most : (q : Bool) → pick q 1 0 ≤ 1
-            most true = omega arith
-            most false = omega arith
+        at (yes i) = omega (arith, sum_to_one (λ t. pick (P t) 1 0) (λ t. pick (less t) 1 0) (g m) n i (λ t j d. same t d), pick_most (P (g m)) 1)
         at (no i) = omega (arith, sum_to_cong (λ t. pick (P t) 1 0) (λ t. pick (less t) 1 0) n (λ t j. same t (λ e. omega (arith, i))))
 
     lower : (t w : ℕ) → w < suc m → (w ≡ m → ⊥) → w < m

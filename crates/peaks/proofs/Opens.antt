@@ -7,7 +7,7 @@ use native.Mathlib.Decide.{dec_lt}
 use mathlib.Core.List.Memᴰ
 use mathlib.Core.List.{List, [], ◌∷◌, Memᴰ}
 use mathlib.Core.Bool.{Bool, true, false}
-use Rattle.table.specs.Sum.{sum_over, greatest_to}
+use Rattle.table.specs.Sum.{sum_over}
 use Rattle.table.specs.Format.{is, Table, kind}
 use Rattle.table.specs.declared.kinds.Kind.TheVariants.{End as end, Fork as fork, Join as join}
 use Rattle.table.specs.Checks.{open_before, owner}
@@ -21,13 +21,6 @@ use Rattle.order.proofs.Lawful.{Lawful}
 -- with k of its actions done, thread t's balance and a weight for each child that stands open
 unfoldable pub reach : Table → (ℕ → ℕ) → ℕ → ℕ → ℕ
 reach T weight t k = balance_to T t k + sum_over weight (open_before T (T.first t + k))
-
--- ---- greatest elements
-
-pub greatest_same : (f g : ℕ → ℕ) (k : ℕ) → ((i : ℕ) → i < k → f i ≡ g i) → greatest_to f k ≡ greatest_to g k
-unfolding greatest_to
-greatest_same f g zero h = refl
-greatest_same f g (suc k) h = omega (arith, greatest_same f g k (λ i p. h i (omega arith)), h k (omega arith))
 
 -- ---- the children that stand open
 

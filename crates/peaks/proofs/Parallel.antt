@@ -25,16 +25,12 @@ use Rattle.schedule.proofs.Sound.Shares.{progress_within}
 use Rattle.schedule.proofs.Stores.{steady_lawful, steady_facts}
 use Rattle.peaks.specs.Peak.{fresh, final, gain, most, peak_there, peak_on, peak_at, workers_peak}
 use Rattle.peaks.specs.Rests.{best_within, best, parallel_peak}
-use Rattle.peaks.proofs.Opens.{reach, greatest_same, open_child, open_over}
+use Rattle.peaks.proofs.Opens.{reach, open_child, open_over}
+use Rattle.table.proofs.Sums.{greatest_to_cong, sum_over_cong}
 use Rattle.peaks.proofs.Weights.{within_weights}
 use Rattle.schedule.proofs.SerialLive.{with_live, common_facts}
 use Rattle.peaks.proofs.Peaks.{peak_is, peak_at_lem}
 use Rattle.peaks.proofs.PeakSizes.{most_under}
-
-sum_over_same : (f g : ℕ → ℕ) (l : List ℕ) → ((x : ℕ) → Memᴰ x l → f x ≡ g x) → sum_over f l ≡ sum_over g l
-unfolding sum_over
-sum_over_same f g [] h = refl
-sum_over_same f g (x ∷ l) h = omega (arith, sum_over_same f g l (λ y m. h y (Memᴰ.tail m)), h x (Memᴰ.head refl))
 
 module _ (T : Table) (l : Lawful T) where
   abbrev reaches : (ℕ → ℕ) → ℕ → ℕ → ℕ
@@ -45,10 +41,10 @@ module _ (T : Table) (l : Lawful T) where
   best_fuel zero g t h i j = absurd (omega arith)
   best_fuel (suc f) zero t h i j = absurd (omega arith)
   best_fuel (suc f) (suc g) t h i j =
-      greatest_same (reaches (best_within f T) t) (reaches (best_within g T) t) (suc (T.count t))
+      greatest_to_cong (reaches (best_within f T) t) (reaches (best_within g T) t) (suc (T.count t))
       (λ k m.
       ap (balance_to T t k +◌)
-      (sum_over_same (best_within f T) (best_within g T) (open_before T (T.first t + k))
+      (sum_over_cong (best_within f T) (best_within g T) (open_before T (T.first t + k))
       (λ d n. let (a, b) = open_child T l t k d h (omega arith) n in best_fuel f g d b (omega arith) (omega arith))))
 
   pub best_is : (t : ℕ) → t < T.threads → best T t ≡ greatest_to (λ k. balance_to T t k + sum_over (best T) (open_before T (T.first t + k))) (suc (T.count t))

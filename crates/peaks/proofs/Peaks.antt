@@ -11,7 +11,8 @@ use Rattle.table.proofs.NestedThreads.{greatest_at, greatest_under}
 use Rattle.schedule.specs.Sound.{balance_to}
 use Rattle.order.proofs.Lawful.{Lawful}
 use Rattle.peaks.specs.Peak.{fresh, final, gain, one_more, most, peak_there, peak_within, peak_on, workers_peak}
-use Rattle.peaks.proofs.Opens.{greatest_same, open_child}
+use Rattle.peaks.proofs.Opens.{open_child}
+use Rattle.table.proofs.Sums.{greatest_to_cong}
 
 -- ---- peaks of the children that agree, or are below
 
@@ -39,7 +40,7 @@ module _ (T U : Table) (v w : ℕ → ℕ → ℕ) where
 
   pub most_same : (r : ℕ) (f : Bool) (l : List ℕ) → Same l → most U v r f l ≡ most T w r f l
   unfolding most
-  most_same r f l h = rw (greatest_same (gain U v r l) (gain T w r l) (suc r) (λ j i. gain_same r l j h), one_same r l h)
+  most_same r f l h = rw (greatest_to_cong (gain U v r l) (gain T w r l) (suc r) (λ j i. gain_same r l j h), one_same r l h)
 
 module _ (T : Table) (v w : ℕ → ℕ → ℕ) where
   gain_le : (r s : ℕ) → r ≤ s → (l : List ℕ) (j : ℕ) → ((d x y : ℕ) → Memᴰ d l → x ≤ y → v d x ≤ w d y) → gain T v r l j ≤ gain T w s l j
@@ -99,7 +100,7 @@ module _ (T : Table) (l : Lawful T) (stop : ℕ → Bool) where
       → greatest_to (stands v t r) (suc (T.count t)) ≡ greatest_to (stands w t r) (suc (T.count t))
   unfolding peak_there
   there_same v w t r h e =
-      greatest_same _ _ (suc (T.count t))
+      greatest_to_cong _ _ (suc (T.count t))
       (λ k i.
       ap (λ x. pick (stop (T.first t + k)) (balance_to T t k + x) 0)
       (most_same T T v w r (fresh T (T.first t + k)) (open_before T (T.first t + k)) (λ d m. let (a, b) = open_child T l t k d h (omega arith) m in (refl, λ s. e d s a b))))

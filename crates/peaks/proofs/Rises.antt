@@ -5,7 +5,7 @@ use native.Mathlib.Omega.{arith}
 use native.Mathlib.Nat.{add-suc, add-zero}
 use mathlib.Core.Bool.{Bool, true, false}
 use Rattle.table.specs.Sum.{pick, sum_to, sum_over, greatest_to}
-use Rattle.table.specs.Format.{code_of, is, Table, kind}
+use Rattle.table.specs.Format.{is, Table, kind}
 use Rattle.table.specs.declared.kinds.Kind.TheVariants.{End as end, Fork as fork, Join as join}
 use Rattle.table.specs.Checks.{alloc_of, free_of, open_before}
 use Rattle.table.proofs.Tests.{is_true, or_neither}
@@ -19,6 +19,7 @@ use Rattle.peaks.specs.Peak.{final}
 use Rattle.peaks.specs.Rests.{stretch_begins, rests, own_to, rested, rise, R}
 use Rattle.peaks.proofs.Opens.{reach}
 use Rattle.peaks.proofs.Unpreempted.{rests_first}
+use Rattle.table.proofs.Peaks.{join_none}
 
 module _ (T : Table) (t : ℕ) where
   pub rested_within : (k : ℕ) → rested T t k ≤ k
@@ -52,10 +53,6 @@ module _ (T : Table) (t : ℕ) where
 pub rests_not : (T : Table) (a : ℕ) → rests T (suc a) ≡ false → (is end (kind T a) ≡ false) × (is fork (kind T a) ≡ false)
 unfolding rests stretch_begins
 rests_not T a e = or_neither _ _ (or_neither _ _ e).0
-
-join_none : (T : Table) (a : ℕ) → kind T a ≡ join → (alloc_of T a ≡ 0) × (free_of T a ≡ 0)
-unfolding alloc_of free_of is code_of
-join_none T a k = (rw k, rw k)
 
 module _ (T : Table) (l : Lawful T) (weight : ℕ → ℕ) (t : ℕ) (h : t < T.threads) where
   abbrev A : ℕ → ℕ

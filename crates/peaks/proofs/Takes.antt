@@ -11,12 +11,11 @@ use mathlib.Core.Logic.{◌⊎◌, inl, inr}
 use lib.ListN.{get_or}
 use lib.Dec.{ltb, eqb}
 use borrow.Author.Tests.{lt-ltb, le-ltb, ltb-true, eqb-false, eq-eqb, ne_eqb}
-use Rattle.table.specs.Sum.{pick, sum_to, sum_over}
+use Rattle.table.specs.Sum.{pick, sum_over}
 use Rattle.table.specs.Format.{Table, kind}
 use Rattle.table.specs.declared.kinds.Kind.TheVariants.{Fork as fork, Join as join}
 use Rattle.table.specs.Checks.{owner, end_of, open_before}
 use Rattle.table.proofs.Tests.{no_way, fork_no_end}
-use Rattle.table.proofs.Sums.{sum_to_le}
 use Rattle.table.proofs.Bodies.{end_within, owner_at, owner_of_end, owner_first, owner_end, owner_below_lem, fork_above, fork_below_lem, join_above, next_owner}
 use Rattle.table.proofs.Nesting.{open_first, open_join, open_forked, fork_found, fork_exists}
 use Rattle.table.proofs.Amounts.{action_within}
@@ -34,32 +33,7 @@ use Rattle.peaks.specs.Peak.{unended, unended_in, outer}
 use Rattle.peaks.proofs.Opens.{along}
 use Rattle.peaks.proofs.Loads.{outer_root, outer_child}
 use Rattle.peaks.proofs.Counts.{few_targets, one_fails}
-
--- ---- counting
-
-count_le : (f g : ℕ → Bool) (n : ℕ) → ((i : ℕ) → f i ≡ true → g i ≡ true) → count_below f n ≤ count_below g n
-count_le f g n h = sum_to_le (λ i. pick (f i) 1 0) (λ i. pick (g i) 1 0) n (λ i l. go i (f i) refl)
-  where
-    go : (i : ℕ) (q : Bool) → f i ≡ q → pick q 1 0 ≤ pick (g i) 1 0
-    go i true e = rw (h i e) (omega arith)
-    go i false e = omega arith
-
--- one more passes
-count_more : (f g : ℕ → Bool) (n i : ℕ) → i < n → ((i : ℕ) → f i ≡ true → g i ≡ true) → f i ≡ false → g i ≡ true → suc (count_below f n) ≤ count_below g n
-unfolding sum_to
-count_more f g zero i b h e d = absurd (omega arith)
-count_more f g (suc n) i b h e d = go (ℕ_discrete i n) (λ (c : i < n). count_more f g n i c h e d)
-  where
-    part : (q : Bool) → f n ≡ q → pick q 1 0 ≤ pick (g n) 1 0
-    part true y = rw (h n y) (omega arith)
-    part false y = omega arith
-
-    go : Dec (i ≡ n) → (i < n → suc (count_below f n) ≤ count_below g n) → suc (count_below f n + pick (f n) 1 0) ≤ count_below g n + pick (g n) 1 0
-    go (yes q) ih =
-        let x : f n ≡ false = rw q at e in
-        let y : g n ≡ true = rw q at d in
-        rw (x, y) (omega (arith, count_le f g n h))
-    go (no q) ih = omega (arith, ih (omega (arith, q)), part (f n) refl)
+use Rattle.order.proofs.CountBelow.{count_le, count_more}
 
 -- ---- the leftmost ready thread
 

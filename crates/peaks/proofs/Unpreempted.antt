@@ -5,7 +5,7 @@ use native.Mathlib.Omega.{arith}
 use native.Mathlib.Decide.{ℕ_discrete}
 use mathlib.Core.List.Memᴰ
 use mathlib.Core.List.{List, [], ◌∷◌, Memᴰ}
-use mathlib.Core.Bool.{Bool, true, false, ◌||◌}
+use mathlib.Core.Bool.{true, false, or-true}
 use mathlib.Core.Logic.{◌⊎◌, inl, inr, ⊎_elim}
 use lib.ListN.{length, get_or, set}
 use lib.Seq.{get_or-set_same, get_or-set_other}
@@ -38,13 +38,9 @@ use Rattle.peaks.specs.Rests.{stretch_begins, rests, drawn_at, drawn_before, str
 
 -- ---- resting places and stretches
 
-or_right : (s : Bool) → (s || true) ≡ true
-or_right true = refl
-or_right false = refl
-
 pub rests_join : (T : Table) (a : ℕ) → kind T a ≡ join → rests T a ≡ true
 unfolding rests
-rests_join T a k = rw (same_is join (kind T a) k) (or_right (stretch_begins T a))
+rests_join T a k = rw (same_is join (kind T a) k) (or-true (stretch_begins T a))
 
 pub rests_fork : (T : Table) (a : ℕ) → kind T a ≡ fork → rests T (suc a) ≡ true
 unfolding rests stretch_begins is code_of

@@ -4,28 +4,23 @@
 pub mod allocs;
 pub mod line;
 
-ghost use Rattle.std.specs.Prelude.{◌≡◌, ◌-◌, ◌*◌, ◌++◌, length, drop, replicate, Err};
+ghost use Rattle.std.specs.Prelude.{◌≡◌, ◌-◌, ◌*◌, ◌++◌, length, drop, replicate};
 ghost use Rattle.io.specs.Counts.{IsPrefixLen};
-ghost use Rattle.table.specs.Pass.{refusal};
-ghost use Rattle.table.specs.Checks.{outside as is_outside};
 ghost use Rattle.quota.specs.Quota.{most_within, quoted, values_of, values_for};
 ghost use Rattle.quota.specs.Line.{answer_to, quota_line};
 ghost use Rattle.quota.specs.Code.Steps.{Ready, Accepted, own_answer};
 
 use allocs::least_quota;
 use line::{answer_line, answer_to};
-use table::{Facts, Refusal};
+use table::{Facts, Refusal, outside};
 
 // The largest K from the table's largest alloc up to 16,777,215 for which the bound on memory held is at most what there is.
 pub fn largest_quota(table: &[u8], p: u8, b: u32, memory: u64) -> Result<u32, Refusal>
     ensures value { result ≡ quoted table.now p b memory }
     ensures result_value { values_of result ≡ values_for table.now p b memory }
 {
-    let loaded = facts::load(table);
-    match loaded {
-        Err(r) => Err(r),
-        Ok(facts) => quota_for(table, facts, p, b, memory),
-    }
+    let facts = facts::load(table)?;
+    quota_for(table, facts, p, b, memory)
 }
 
 // The same without recursion, in lent working memory, which may hold anything and is left cleared.
@@ -43,11 +38,8 @@ pub fn largest_quota_in(
     ensures result_value { values_of result ≡ values_for table.now p b memory }
     ensures rises_after { (rises.new ≡ replicate 1024 0) × (falls.new ≡ replicate 1024 0) × (peaks.new ≡ replicate 1024 0) × (depths.new ≡ replicate 1024 0) }
 {
-    let loaded = facts::load_in(table, rises, falls, peaks, depths);
-    match loaded {
-        Err(r) => Err(r),
-        Ok(facts) => quota_for(table, facts, p, b, memory),
-    }
+    let facts = facts::load_in(table, rises, falls, peaks, depths)?;
+    quota_for(table, facts, p, b, memory)
 }
 
 // The line that `maxquota` prints, from the bytes that it reads, and its length.
@@ -64,38 +56,25 @@ fn quota_for(table: &[u8], facts: Facts, p: u8, b: u32, memory: u64) -> Result<u
     requires { Accepted table.now facts }
     ensures { result ≡ own_answer table.now p b memory }
 {
-    if outside(1, 16, p as u32) {
-        return refuse(20);
+    if outside(1, 16, p as usize) {
+        return Err(Refusal::new(20, 0));
     }
-    if outside(1, 65535, b) {
-        return refuse(41);
+    if outside(1, 65535, b as usize) {
+        return Err(Refusal::new(41, 0));
     }
     let peak = facts.peak;
     if memory < peak {
-        return refuse(42);
+        return Err(Refusal::new(42, 0));
     }
     let most = most_within(cost(p, b, facts.depth), memory - peak);
     if (most as usize) < least_quota(table) {
-        return refuse(42);
+        return Err(Refusal::new(42, 0));
     }
     Ok(most)
 }
 
-// Below a range of numbers, or above it.
-pub fn outside(low: u32, high: u32, x: u32) -> bool
-    ensures { result ≡ is_outside low high x }
-{
-    x < low || high < x
-}
-
-pub(crate) fn refuse(number: u8) -> Result<u32, Refusal>
-    ensures { result ≡ Err (refusal number 0) }
-{
-    Err(Refusal { number, place: 0 })
-}
-
 // What each unit of quota adds to the bound. With b below 2^16, p at most 16 and D at most 8,192 it is below 2^33, and times any K below 2^57; here no product with K is made.
-fn cost(p: u8, b: u32, depth: u16) -> u64
+pub fn cost(p: u8, b: u32, depth: u16) -> u64
     requires { Ready p b depth }
     ensures { result ≡ b * (p - 1) * (depth - 1) }
 {
@@ -109,10 +88,5 @@ pub fn most_within(cost: u64, spare: u64) -> u32
     if cost == 0 {
         return 16777215;
     }
-    let most = spare / cost;
-    if most < 16777215 {
-        most as u32
-    } else {
-        16777215
-    }
+    (spare / cost).min(16777215) as u32
 }

@@ -1,34 +1,25 @@
 // The line of `maxquota`: its input taken apart, and its answer put as text.
-ghost use Rattle.std.specs.Prelude.{◌≡◌, ◌≤◌, ◌<◌, ◌++◌, length, drop};
-ghost use Rattle.table.specs.Format.{u32_at};
-ghost use Rattle.table.specs.Sum.{Read};
+ghost use Rattle.std.specs.Prelude.{◌≡◌, ◌≤◌, ◌++◌, length, drop};
 ghost use Rattle.quota.specs.Line.{gap_in, memory_in, answer_to, given_line, quota_line};
 
+use crate::largest_quota;
 use table::Refusal;
-use crate::{largest_quota, refuse};
-use table::read::{byte, word};
+use table::front::four_bytes;
+use table::read::byte;
 use text::{put_labelled, put_word};
-
-// 32 bits, little-endian.
-fn double_word(s: &[u8], i: usize) -> usize
-    requires { i < 65536 }
-    ensures { Read (u32_at s.now i) 4294967296 result }
-{
-    word(s, i) + 65536 * word(s, i + 2)
-}
 
 // b, 32 bits.
 pub fn gap_in(input: &[u8]) -> u32
     ensures { result ≡ gap_in input.now }
 {
-    double_word(input, 1) as u32
+    four_bytes(input, 1)
 }
 
 // M, 64 bits.
 pub fn memory_in(input: &[u8]) -> u64
     ensures { result ≡ memory_in input.now }
 {
-    (double_word(input, 5) + 4294967296 * double_word(input, 9)) as u64
+    four_bytes(input, 5) as u64 + 4294967296 * (four_bytes(input, 9) as u64)
 }
 
 // Check 33, and the answer where it does not apply.
@@ -36,7 +27,7 @@ pub(crate) fn answer_to(input: &[u8]) -> Result<u32, Refusal>
     ensures { result ≡ answer_to input.now }
 {
     if input.len() < 13 {
-        return refuse(33);
+        return Err(Refusal::new(33, 0));
     }
     largest_quota(
         &input[13..],

@@ -11,12 +11,13 @@ use Rattle.table.specs.Sum.{pick}
 use Rattle.table.specs.Format.{Table}
 use Rattle.table.specs.declared.kinds.Kind.TheVariants.{Work as work, Alloc as alloc, Free as free, Unknown as unknown}
 use Rattle.schedule.specs.declared.Worker.{Worker}
+use Rattle.schedule.specs.declared.Reply.{Reply}
 use Rattle.schedule.specs.declared.Reply.TheVariants.{Idle, Done, Quota}
 use Rattle.schedule.specs.Machine.{drawn, ready, held, nobody}
 use Rattle.table.proofs.Tests.{and_both}
 use Rattle.array_machine.proofs.Leaves.{fits_and}
 use Rattle.array_machine.specs.Turn.{next_fits, amount_fits, act_on}
-use Rattle.run_memory.specs.declared.act.Went.{Went}
+use Rattle.std.specs.Prelude.{None, Option, Some}
 use Rattle.run_memory.specs.Memory.{Memory, moved_in}
 use Rattle.run_memory.specs.Blocks.{Bytes, Words, Numbers, Sums, bytes_in, words_in, numbers_in, sums_in, gathered, memory_of}
 use Rattle.run_memory.specs.Places.{statused, rowed, amounted, holds_in}
@@ -25,16 +26,16 @@ use Rattle.run_memory.specs.Code.Acts.{Gone, gone, went_in, seated_quota, acted,
 
 -- ---- for every action
 
--- what an action leaves, where its struct and what stands in the four blocks are known
-pub gone_as : (bytes words numbers sums : List ℕ) {r z : Went} {B : Bytes} {W : Words} {N : Numbers} {S : Sums} {o : Gone}
-    → r ≡ z → bytes_in bytes ≡ B → words_in words ≡ W → numbers_in numbers ≡ N → sums_in sums ≡ S
-    → gone z (gathered B W N S) ≡ o → gone r (memory_of bytes words numbers sums) ≡ o
-gone_as bytes words numbers sums e b q n s d = (λ i. gone (e i) (gathered (b i) (q i) (n i) (s i))) ∙ d
+-- what an action leaves, where what stands in the four blocks is known
+pub gone_as : (r : Option Reply) (bytes words numbers sums : List ℕ) {B : Bytes} {W : Words} {N : Numbers} {S : Sums} {o : Gone}
+    → bytes_in bytes ≡ B → words_in words ≡ W → numbers_in numbers ≡ N → sums_in sums ≡ S
+    → gone r (gathered B W N S) ≡ o → gone r (memory_of bytes words numbers sums) ≡ o
+gone_as r bytes words numbers sums b q n s d = (λ i. gone r (gathered (b i) (q i) (n i) (s i))) ∙ d
 
 -- the same where the sums are as they were
-pub written_as : {r z : Went} {B X : Bytes} {W Y : Words} {N L : Numbers} {S : Sums} {o : Gone} → r ≡ z → X ≡ B → Y ≡ W → L ≡ N
-    → gone z (gathered B W N S) ≡ o → gone r (gathered X Y L S) ≡ o
-written_as {S} e b q n d = (λ i. gone (e i) (gathered (b i) (q i) (n i) S)) ∙ d
+pub written_as : (r : Option Reply) (S : Sums) {B X : Bytes} {W Y : Words} {N L : Numbers} {o : Gone} → X ≡ B → Y ≡ W → L ≡ N
+    → gone r (gathered B W N S) ≡ o → gone r (gathered X Y L S) ≡ o
+written_as r S b q n d = (λ i. gone r (gathered (b i) (q i) (n i) S)) ∙ d
 
 -- a number is written twice at one place
 pub set_again : (l : List ℕ) (t x y : ℕ) → set (set l t x) t y ≡ set l t y
@@ -98,19 +99,19 @@ free_room a h o x e d =
 -- ---- one action
 
 module _ (B : Bytes) (W : Words) (N : Numbers) (S : Sums) (T : Table) (w t a x : ℕ) where
-  pub work_unfit : {f : Bool} → f ≡ false → f ≡ next_fits a → gone (record { fits = false; reply = Idle }) (gathered B W N S) ≡ acted work T w t a x (gathered B W N S)
+  pub work_unfit : {f : Bool} → f ≡ false → f ≡ next_fits a → gone None (gathered B W N S) ≡ acted work T w t a x (gathered B W N S)
   unfolding went_in act_on
   work_unfit e h = rw (← h, e)
 
   pub work_done : {f : Bool} {q : ℕ} → q ≡ seated_quota (gathered B W N S) w → f ≡ true → f ≡ next_fits a → Seated (gathered B W N S) w t a
-      → gone (record { fits = true; reply = Done t a })
+      → gone (Some (Done t a))
       (gathered (settled w (having t q) (seated_bytes w t B)) (settled_words w (holds_in w B) (having t q) (rowed 1 t (a + 1) W)) (settled_numbers w (having t q) N) S)
       ≡ acted work T w t a x (gathered B W N S)
   unfolding went_in act_on
   work_done k e h s = rw (k, ← h, e, next_at (W.rows 1) t a s.action)
 
   pub unknown_kept : {q : ℕ} → q ≡ seated_quota (gathered B W N S) w
-      → gone (record { fits = true; reply = Idle })
+      → gone (Some Idle)
       (gathered (settled w (having t q) (seated_bytes w t B)) (settled_words w (holds_in w B) (having t q) W) (settled_numbers w (having t q) N) S)
       ≡ acted unknown T w t a x (gathered B W N S)
   unfolding went_in act_on
@@ -118,7 +119,7 @@ module _ (B : Bytes) (W : Words) (N : Numbers) (S : Sums) (T : Table) (w t a x :
 
   -- beyond the quota the thread is ready, and the worker is released
   pub alloc_beyond : {q y : ℕ} → q ≡ seated_quota (gathered B W N S) w → y ≡ drawn N.quota x → q < y
-      → gone (record { fits = true; reply = Quota t x })
+      → gone (Some (Quota t x))
       (gathered (settled w nobody (statused t ready B)) (settled_words w (holds_in w B) nobody W) (settled_numbers w nobody N) S)
       ≡ acted alloc T w t a x (gathered B W N S)
   unfolding went_in act_on
@@ -134,12 +135,12 @@ module _ (B : Bytes) (W : Words) (N : Numbers) (S : Sums) (T : Table) (w t a x :
       fitting : f ≡ (next_fits a && (amount_fits (S.held + x) && amount_fits (get_or S.amounts t 0 + x)))
       fitting = d ∙ (λ i. next_fits a && (amount_fits (l i + x) && amount_fits (o i + x)))
 
-      pub alloc_unfit : f ≡ false → gone (record { fits = false; reply = Idle }) (gathered B W N S) ≡ acted alloc T w t a x (gathered B W N S)
+      pub alloc_unfit : f ≡ false → gone None (gathered B W N S) ≡ acted alloc T w t a x (gathered B W N S)
       unfolding went_in act_on
       alloc_unfit e = rw (within, ← fitting, e)
 
       pub alloc_done : f ≡ true → Seated (gathered B W N S) w t a
-          → gone (record { fits = true; reply = Done t a })
+          → gone (Some (Done t a))
           (gathered (settled w (having t (q - y)) (seated_bytes w t B)) (settled_words w (holds_in w B) (having t (q - y)) (rowed 1 t (a + 1) W))
           (settled_numbers w (having t (q - y)) N) (held_sums (all + x) (amounted t (own + x) S)))
           ≡ acted alloc T w t a x (gathered B W N S)
@@ -150,12 +151,12 @@ module _ (B : Bytes) (W : Words) (N : Numbers) (S : Sums) (T : Table) (w t a x :
       enough : f ≡ (next_fits a && (leb x S.held && leb x (get_or S.amounts t 0)))
       enough = d ∙ (λ i. next_fits a && (leb x (l i) && leb x (o i)))
 
-      pub free_unfit : f ≡ false → gone (record { fits = false; reply = Idle }) (gathered B W N S) ≡ acted free T w t a x (gathered B W N S)
+      pub free_unfit : f ≡ false → gone None (gathered B W N S) ≡ acted free T w t a x (gathered B W N S)
       unfolding went_in act_on
       free_unfit e = rw (← enough, e)
 
       pub free_done : {q : ℕ} → q ≡ seated_quota (gathered B W N S) w → f ≡ true → Seated (gathered B W N S) w t a
-          → gone (record { fits = true; reply = Done t a })
+          → gone (Some (Done t a))
           (gathered (settled w (having t q) (seated_bytes w t B)) (settled_words w (holds_in w B) (having t q) (rowed 1 t (a + 1) W)) (settled_numbers w (having t q) N)
           (held_sums (all - x) (amounted t (own - x) S)))
           ≡ acted free T w t a x (gathered B W N S)

@@ -1,6 +1,6 @@
 -- A call by value packs the record into the blocks, makes the call there and reads the record back: what it answers is the record's own turn or run.
-use mathlib.Core.Path.{◌≡◌, refl, sym, ap, ◌∙◌}
-use Prim.Native.Nat.{ℕ, zero, suc, ◌-◌, ◌^◌, ◌≤◌, ◌<◌}
+use mathlib.Core.Path.{◌≡◌, refl, ap, ◌∙◌}
+use Prim.Native.Nat.{ℕ, zero, suc, ◌-◌, ◌^◌, ◌<◌}
 use native.Mathlib.Omega.{arith}
 use mathlib.Core.List.{List, [], ◌∷◌}
 use mathlib.Core.Bool.{Bool, true, false}
@@ -12,7 +12,6 @@ use Rattle.table.specs.Format.{table_of}
 use Rattle.schedule.specs.declared.Run.{Run}
 use Rattle.schedule.specs.declared.Ran.{Ran}
 use Rattle.schedule.specs.declared.Reply.TheVariants.{Idle}
-use Rattle.schedule.specs.declared.Turned.{Turned}
 use Rattle.schedule.specs.Record.{bytes_of, table_in}
 use Rattle.schedule.specs.Sound.{Steady}
 use Rattle.schedule.specs.Parents.{Parents}

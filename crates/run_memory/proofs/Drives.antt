@@ -15,7 +15,7 @@ use Rattle.schedule.specs.Runs.{worker_at}
 use Rattle.array_machine.specs.Counted.{Left, turn_on}
 use Rattle.run_memory.specs.Memory.{Memory, worker_in, moved_in, memory_after, hindrance, Told, told, turn_left, turn_in}
 use Rattle.run_memory.specs.declared.runs.Stop.{Stop}
-use Rattle.run_memory.specs.Runs.{Stopped, stopped, ends_root, drive_in, list_run_in, rounds_run_in}
+use Rattle.run_memory.specs.Runs.{Stopped, stopped, stopped_at, ends_root, drive_in, list_run_in, rounds_run_in}
 use Rattle.run_memory.proofs.Endings.{Undone, Unending, Ends, says_no_end, says_end, turn_ends}
 
 -- a turn that is refused moves nothing, whatever hindered it
@@ -37,8 +37,8 @@ refused_same s w M =
     nothing_moved M w (eqb number 0) number (turn_on (table_of s) (get_or M.settings 1 0) M.parents w M.arrays (moved_in M) (worker_in M w))
 
 -- the answer is the one given
-pub stopped_as_lem : {x y : Stop} {M : Memory} {d : Stopped} → x ≡ y → stopped y.number y.finished y.turns M ≡ d → stopped x.number x.finished x.turns M ≡ d
-stopped_as_lem e h = rw e h
+pub stopped_as_lem : {x : Stop} (y : Stop) (M : Memory) {d : Stopped} → x ≡ y → stopped_at y M ≡ d → stopped_at x M ≡ d
+stopped_as_lem y M e h = rw e h
 
 -- the root has not ended
 abbrev pub Going : Memory → Type 0
@@ -69,6 +69,10 @@ module _ {s : List ℕ} {who : ℕ → ℕ} {limit : ℕ} {M₀ M : Memory} {i :
   spent h =
       let z : limit - i ≡ 0 = omega (arith, h) in
       rw (z, ne_eqb (get_or M.arrays.status 0 0) ended v.going) at v.remains
+
+  -- as the loop's end says it
+  pub spent_at : limit ≤ i → stopped 0 false limit M ≡ whole
+  spent_at h = let e : limit ≡ i = omega (arith, h, v.within) in ap (λ (j : ℕ). stopped 0 false j M) e ∙ spent h
 
   module _ (h : i < limit) {w : ℕ} (q : w ≡ who i) {t : Told} (e : t ≡ turn_in s w M) where
     here : drive_in s who (suc (limit - (i + 1))) i M ≡ whole

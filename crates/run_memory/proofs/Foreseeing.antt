@@ -18,10 +18,10 @@ use Rattle.schedule.specs.Links.{no_thread}
 use Rattle.array_machine.specs.Turn.{Outcome}
 use Rattle.array_machine.specs.Counted.{Left, room_for, turn_on}
 use Rattle.run_memory.specs.declared.preview.Foreseen.{Foreseen}
-use Rattle.run_memory.specs.declared.preview.Foreseen.TheVariants.{Would, Refused}
+use Rattle.std.specs.Prelude.{Err, None, Option, Result, Some}
 use Rattle.run_memory.specs.declared.preview.Seen.{Seen}
 use Rattle.run_memory.specs.Memory.{Memory, worker_in, moved_in, hindrance, Told, told, turn_left, taken_in, turn_in, passed_over}
-use Rattle.run_memory.specs.Preview.{foreseen_as, foreseen_in}
+use Rattle.run_memory.specs.Preview.{would, foreseen_as, foreseen_in}
 use Rattle.run_memory.specs.Code.Acts.{seated_status, seated_quota, seated_worker}
 use Rattle.run_memory.specs.Code.Seen.{seeing, unseen, seen_of, seen_in}
 use Rattle.run_memory.proofs.ListActs.{seated_ended}
@@ -29,29 +29,34 @@ use Rattle.run_memory.proofs.Takes.{has_room, found, without_room, idles, passes
 use Rattle.run_memory.proofs.Seeing.{before_taken}
 
 -- an action that fits
-abbrev fitting : Outcome → Seen
+abbrev fitting : Outcome → Option Seen
 fitting o = seeing o.reply o.totals.held o.totals.highest o.worker.quota
 
-seen_fits : (o : Outcome) {z : Seen} → z ≡ seen_of o → z.fits ≡ true → (o.fits ≡ true) × (z ≡ fitting o)
-seen_fits o {z} e h = go o.fits refl
+seen_fits : (o : Outcome) {z : Option Seen} {y : Seen} → z ≡ seen_of o → z ≡ Some y → (o.fits ≡ true) × (Some y ≡ fitting o)
+seen_fits o {z} {y} e h = go o.fits refl
   where
-    go : (b : Bool) → o.fits ≡ b → (o.fits ≡ true) × (z ≡ fitting o)
-    go true d = (d, e ∙ ap (λ (y : Bool). pick y (fitting o) unseen) d)
+    go : (b : Bool) → o.fits ≡ b → (o.fits ≡ true) × (Some y ≡ fitting o)
+    go true d = (d, sym h ∙ e ∙ ap (λ (v : Bool). pick v (fitting o) unseen) d)
     go false d =
-        let k : z.fits ≡ false = ap (λ (y : Seen). y.fits) e ∙ ap (λ (y : Bool). (pick y (fitting o) unseen).fits) d in
-        no_way (cc)
+        let k : Some y ≡ unseen = sym h ∙ e ∙ ap (λ (v : Bool). pick v (fitting o) unseen) d in
+        no_way (cc (k))
 
-seen_unfit : (o : Outcome) {z : Seen} → z ≡ seen_of o → z.fits ≡ false → o.fits ≡ false
+-- with how many threads are passed over
+abbrev with_passed : ℕ → Option Seen → Result Foreseen ℕ
+with_passed k None = Err 32
+with_passed k (Some v) = would v.reply k v.held v.highest v.quota
+
+seen_unfit : (o : Outcome) {z : Option Seen} → z ≡ seen_of o → z ≡ None → o.fits ≡ false
 seen_unfit o {z} e h = go o.fits refl
   where
     go : (b : Bool) → o.fits ≡ b → o.fits ≡ false
     go false d = d
     go true d =
-        let k : z.fits ≡ true = ap (λ (y : Seen). y.fits) e ∙ ap (λ (y : Bool). (pick y (fitting o) unseen).fits) d in
-        no_way (cc)
+        let k : unseen ≡ fitting o = sym h ∙ e ∙ ap (λ (v : Bool). pick v (fitting o) unseen) d in
+        no_way (cc (k))
 
 module _ (s : List ℕ) (w : ℕ) (M : Memory) where
-  abbrev shown : Foreseen
+  abbrev shown : Result Foreseen ℕ
   shown = foreseen_as (taken_in s w M) (passed_over M w) w
 
   abbrev number : ℕ
@@ -75,7 +80,7 @@ module _ (s : List ℕ) (w : ℕ) (M : Memory) where
       none : has_room s w M ≡ false
       none = rw (le-ltb w 16 h) (and-false (ltb ((moved_in M).turns + 1) (2 ^ 64)))
 
-  pub no_worker_lem : 16 ≤ w → Refused 32 ≡ shown
+  pub no_worker_lem : 16 ≤ w → Err 32 ≡ shown
   no_worker_lem h = as_shown (without_worker h)
 
   -- so that a turn that is taken is one of sixteen workers'
@@ -91,16 +96,16 @@ module _ (s : List ℕ) (w : ℕ) (M : Memory) where
           stuck true d = let x : ◌≡◌ {A = ℕ} 32 0 = ap (λ (t : Told). t.number) (without_worker (omega arith)) ∙ (rw d at e) in omega (arith, x)
           stuck false d = eqb-false number 0 d (rw d at e)
 
-  pub refuses : told 32 Idle M ≡ taken_in s w M → Refused 32 ≡ shown
+  pub refuses : told 32 Idle M ≡ taken_in s w M → Err 32 ≡ shown
   refuses e = as_shown e
 
   module _ {f : Bool} (r : f ≡ true) (d : f ≡ has_room s w M) where
-    pub is_idle : (worker_in M w).holds ≡ false → no_thread ≤ found s w M → Would Idle 0 (get_or M.totals 0 0) (get_or M.totals 1 0) (get_or M.quotas w 0) ≡ shown
+    pub is_idle : (worker_in M w).holds ≡ false → no_thread ≤ found s w M → would Idle 0 (get_or M.totals 0 0) (get_or M.totals 1 0) (get_or M.quotas w 0) ≡ shown
     is_idle h l =
-        ap (λ (k : ℕ). Would Idle k (get_or M.totals 0 0) (get_or M.totals 1 0) (get_or M.quotas w 0)) (passes_idle M w true l) ∙ as_shown (idles s w M r d h l)
+        ap (λ (k : ℕ). would Idle k (get_or M.totals 0 0) (get_or M.totals 1 0) (get_or M.quotas w 0)) (passes_idle M w true l) ∙ as_shown (idles s w M r d h l)
 
     module _ (t : ℕ) (e : t ≡ pick (worker_in M w).holds (get_or M.threads w 0) (found s w M)) (l : t < no_thread) (y : (worker_in M w).holds ≡ false → get_or M.arrays.status t 0 ≡ ready)
-        {z : Seen} {a quota : ℕ} (i : a ≡ get_or M.arrays.next t 0) (q : quota ≡ seated_quota M w) (g : z ≡ seen_in (kind (table_of s) a) (table_of s) t a ((table_of s).argument a) quota M) where
+        {z : Option Seen} {a quota : ℕ} (i : a ≡ get_or M.arrays.next t 0) (q : quota ≡ seated_quota M w) (g : z ≡ seen_in (kind (table_of s) a) (table_of s) t a ((table_of s).argument a) quota M) where
       abbrev o : Outcome
       o = there s w M r d t e l
 
@@ -114,16 +119,15 @@ module _ (s : List ℕ) (w : ℕ) (M : Memory) where
           ∙ sym (before_taken T (get_or M.settings 1 0) M.parents M.arrays (moved_in M).totals (seated_worker M w t) (seated_status M w t) t b x
           (seated_ended (worker_in M w).holds M.arrays.status t x y) (kind T b))
 
-      pub is_unfit : z.fits ≡ false → Refused 32 ≡ shown
+      pub is_unfit : z ≡ None → Err 32 ≡ shown
       is_unfit h = refuses (stays_unfit s w M r d t e l (seen_unfit o seen_there h))
 
-      pub goes : {k : ℕ} → z.fits ≡ true → k ≡ passed_over M w → w < length M.quotas → Would z.reply k z.held z.highest z.quota ≡ shown
-      goes {k} h p n =
+      pub goes : {k : ℕ} {y : Seen} → z ≡ Some y → k ≡ passed_over M w → w < length M.quotas → would y.reply k y.held y.highest y.quota ≡ shown
+      goes {k} {y} h p n =
           let f = seen_fits o seen_there h in
-          let u : Foreseen = Would o.reply (passed_over M w) o.totals.held o.totals.highest o.worker.quota in
-          ap (λ (v : Seen). Would v.reply k v.held v.highest v.quota) f.1
-          ∙ ap (λ (v : ℕ). Would o.reply v o.totals.held o.totals.highest o.worker.quota) p
-          ∙ ap (λ (v : ℕ). Would o.reply (passed_over M w) o.totals.held o.totals.highest v) (sym (get_or-set_same M.quotas w o.worker.quota 0 n))
+          ap (with_passed k) f.1
+          ∙ ap (λ (v : ℕ). would o.reply v o.totals.held o.totals.highest o.worker.quota) p
+          ∙ ap (λ (v : ℕ). would o.reply (passed_over M w) o.totals.held o.totals.highest v) (sym (get_or-set_same M.quotas w o.worker.quota 0 n))
           ∙ as_shown (goes_there s w M r d t e l f.0)
 
   -- ---- what refuses it
@@ -144,12 +148,12 @@ module _ (s : List ℕ) (w : ℕ) (M : Memory) where
   -- ---- before it is taken
 
   module _ {k : ℕ} (e : k ≡ number) where
-    pub is_hindered : (k ≡ 0 → ⊥) → Refused k ≡ foreseen_in s w M
+    pub is_hindered : (k ≡ 0 → ⊥) → Err k ≡ foreseen_in s w M
     unfolding foreseen_in
     is_hindered h =
-        ap (λ (b : Bool). pick {A = Foreseen} b (Would Idle (passed_over M w) (get_or M.totals 0 0) (get_or M.totals 1 0) (get_or M.quotas w 0)) (Refused k)) (sym (ne_eqb k 0 h))
+        ap (λ (b : Bool). pick {A = Result Foreseen ℕ} b (would Idle (passed_over M w) (get_or M.totals 0 0) (get_or M.totals 1 0) (get_or M.quotas w 0)) (Err k)) (sym (ne_eqb k 0 h))
         ∙ ap (λ (t : Told). foreseen_as t (passed_over M w) w) (hindered s w M e h)
 
-    pub is_taken : k ≡ 0 → {p : Foreseen} → p ≡ shown → p ≡ foreseen_in s w M
+    pub is_taken : k ≡ 0 → {p : Result Foreseen ℕ} → p ≡ shown → p ≡ foreseen_in s w M
     unfolding foreseen_in
     is_taken h d = d ∙ ap (λ (t : Told). foreseen_as t (passed_over M w) w) (goes_on s w M e h)

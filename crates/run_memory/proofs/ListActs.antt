@@ -1,5 +1,5 @@
 -- What a fork, a join and an end leave in the records that stand in the four blocks, against the definitions of these actions.
-use mathlib.Core.Path.{◌≡◌, refl, ap, ◌∙◌}
+use mathlib.Core.Path.{◌≡◌, refl}
 use Prim.Native.Nat.{ℕ, zero, suc, ◌+◌, ◌≤◌, ◌<◌}
 use mathlib.Core.List.{List, [], ◌∷◌}
 use mathlib.Core.Bool.{Bool, true, false, ◌&&◌}
@@ -9,23 +9,18 @@ use lib.Dec.{eqb, ltb}
 use Rattle.table.specs.Sum.{pick}
 use Rattle.table.specs.Format.{Table}
 use Rattle.table.specs.declared.kinds.Kind.TheVariants.{Fork as fork, Join as join, End as end}
-use Rattle.schedule.specs.declared.Reply.TheVariants.{Idle, Done, Wait}
+use Rattle.schedule.specs.declared.Reply.TheVariants.{Done, Wait}
 use Rattle.schedule.specs.Machine.{ready, held, waiting, ended, nobody}
 use Rattle.schedule.specs.Links.{link_left, unlink}
 use Rattle.array_machine.specs.Turn.{next_fits, amount_fits, waits_in, act_on}
-use Rattle.run_memory.specs.declared.act.Went.{Went}
-use Rattle.run_memory.specs.Memory.{Memory}
+use Rattle.std.specs.Prelude.{None, Some}
 use Rattle.run_memory.specs.Blocks.{Bytes, Words, Numbers, Sums, gathered}
 use Rattle.run_memory.specs.Places.{statused, rowed, amounted, holds_in}
 use Rattle.run_memory.specs.Code.Writes.{linked_left, unlinked, settled, settled_words, settled_numbers, having, seated_bytes}
-use Rattle.run_memory.specs.Code.Acts.{Gone, gone, went_in, seated_quota, acted, Seated}
+use Rattle.run_memory.specs.Code.Acts.{gone, went_in, seated_quota, acted, Seated}
 use Rattle.run_memory.proofs.Acts.{set_seated, next_at}
 
 -- ---- for every one of them
-
--- nothing was written
-pub unfit_as : {r z : Went} {M : Memory} {o : Gone} → r ≡ z → gone z M ≡ o → gone r M ≡ o
-unfit_as {M} e d = ap (λ (x : Went). gone x M) e ∙ d
 
 -- a thread that is taken was ready and is held: neither is an end
 same_ended : (l : List ℕ) (t c : ℕ) → get_or l t 0 ≡ ready → eqb (get_or (set l t held) c 0) ended ≡ eqb (get_or l c 0) ended
@@ -44,12 +39,12 @@ seated_ended false l t c h = same_ended l t c (h refl)
 module _ (B : Bytes) (W : Words) (N : Numbers) (S : Sums) (T : Table) (w t a x : ℕ) where
   -- fork
 
-  pub fork_unfit : {f : Bool} → f ≡ false → f ≡ (next_fits a && ltb x 1024) → gone (record { fits = false; reply = Idle }) (gathered B W N S) ≡ acted fork T w t a x (gathered B W N S)
+  pub fork_unfit : {f : Bool} → f ≡ false → f ≡ (next_fits a && ltb x 1024) → gone None (gathered B W N S) ≡ acted fork T w t a x (gathered B W N S)
   unfolding went_in act_on
   fork_unfit e d = rw (← d, e)
 
   pub fork_done : {f : Bool} → Seated (gathered B W N S) w t a → f ≡ true → f ≡ (next_fits a && ltb x 1024)
-      → gone (record { fits = true; reply = Done t a })
+      → gone (Some (Done t a))
       (gathered (statused x ready (settled w nobody (statused t ready B)))
       (linked_left 4 1 x t (linked_left 2 0 x t (settled_words w (holds_in w B) nobody (rowed 1 t (a + 1) W)))) (settled_numbers w nobody N) S)
       ≡ acted fork T w t a x (gathered B W N S)
@@ -58,12 +53,12 @@ module _ (B : Bytes) (W : Words) (N : Numbers) (S : Sums) (T : Table) (w t a x :
 
   -- join
 
-  pub join_outside : 1024 ≤ x → gone (record { fits = false; reply = Idle }) (gathered B W N S) ≡ acted join T w t a x (gathered B W N S)
+  pub join_outside : 1024 ≤ x → gone None (gathered B W N S) ≡ acted join T w t a x (gathered B W N S)
   unfolding went_in act_on
   join_outside h = rw (le-ltb x 1024 h)
 
   pub join_waits : Seated (gathered B W N S) w t a → x < 1024 → (get_or B.status x 0 ≡ ended → ⊥)
-      → gone (record { fits = true; reply = Wait t x })
+      → gone (Some (Wait t x))
       (gathered (settled w nobody (statused t waiting B)) (unlinked 4 1 t (settled_words w (holds_in w B) nobody W)) (settled_numbers w nobody N) S)
       ≡ acted join T w t a x (gathered B W N S)
   unfolding went_in act_on unlink
@@ -73,12 +68,12 @@ module _ (B : Bytes) (W : Words) (N : Numbers) (S : Sums) (T : Table) (w t a x :
   -- a child that has ended
   module _ {f : Bool} {own child : ℕ} (s : Seated (gathered B W N S) w t a) (l : x < 1024) (g : get_or B.status x 0 ≡ ended) (o : own ≡ get_or S.amounts t 0)
       (k : child ≡ get_or S.amounts x 0) (d : f ≡ (next_fits a && amount_fits (own + child))) where
-    pub join_unfit : f ≡ false → gone (record { fits = false; reply = Idle }) (gathered B W N S) ≡ acted join T w t a x (gathered B W N S)
+    pub join_unfit : f ≡ false → gone None (gathered B W N S) ≡ acted join T w t a x (gathered B W N S)
     unfolding went_in act_on
     join_unfit e = rw (lt-ltb x 1024 l, seated_ended (holds_in w B) B.status t x s.taken, eq-eqb (get_or B.status x 0) ended g, ← o, ← k, ← d, e)
 
     pub join_done_lem : {q : ℕ} → q ≡ seated_quota (gathered B W N S) w → f ≡ true
-        → gone (record { fits = true; reply = Done t a })
+        → gone (Some (Done t a))
         (gathered (settled w (having t q) (seated_bytes w t B)) (settled_words w (holds_in w B) (having t q) (rowed 1 t (a + 1) W)) (settled_numbers w (having t q) N)
         (amounted x 0 (amounted t (own + child) S)))
         ≡ acted join T w t a x (gathered B W N S)
@@ -91,7 +86,7 @@ module _ (B : Bytes) (W : Words) (N : Numbers) (S : Sums) (T : Table) (w t a x :
   pub end_done : (u : ℕ) (r : Bool) → u ≡ get_or (W.rows 0) t 0 → r ≡ waits_in T (W.rows 1) (set B.status t ended) u t
       → (let C : Bytes = settled w nobody (statused t ended B) in
       let Z : Words = settled_words w (holds_in w B) nobody W in
-      gone (record { fits = true; reply = Done t a })
+      gone (Some (Done t a))
       (gathered (pick r (statused u ready C) C) (unlinked 4 1 t (unlinked 2 0 t (pick r (linked_left 4 1 u t Z) Z))) (settled_numbers w nobody N) S))
       ≡ acted end T w t a x (gathered B W N S)
   unfolding went_in act_on link_left unlink

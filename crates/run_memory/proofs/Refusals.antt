@@ -1,5 +1,4 @@
 -- A turn or a run in memory is refused with 30, 31 or 32, whatever the memory holds.
-use mathlib.Core.Path.{◌≡◌, refl}
 use Prim.Native.Nat.{ℕ, zero, suc, ◌-◌, ◌^◌, ◌≤◌}
 use native.Mathlib.Omega.{arith}
 use mathlib.Core.List.{List, []}
@@ -13,7 +12,7 @@ use Rattle.schedule.specs.Machine.{ended}
 use Rattle.schedule.specs.Runs.{worker_at}
 use Rattle.array_machine.specs.Counted.{Left, turn_on}
 use Rattle.run_memory.specs.Memory.{Memory, worker_in, moved_in, memory_after, hindrance, told, turn_left, turn_in}
-use Rattle.run_memory.specs.Runs.{Stopped, stopped, over_in, drive_in, list_run_in, rounds_run_in}
+use Rattle.run_memory.specs.Runs.{Stopped, over_in, drive_in, list_run_in, rounds_run_in}
 
 hindrance_number : (turns p w root : ℕ) → hindrance turns p w root ≤ 32
 unfolding hindrance

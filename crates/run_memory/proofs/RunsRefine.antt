@@ -1,5 +1,5 @@
 -- On memory in which a record stands, the runs are document 01's: report and record are those of the record's run, and the record after it stands in the memory left.
-use mathlib.Core.Path.{◌≡◌, refl, subst, ◌∙◌}
+use mathlib.Core.Path.{◌≡◌, refl, subst}
 use Prim.Native.Nat.{ℕ, zero, suc, ◌-◌, ◌^◌, ◌%◌}
 use native.Mathlib.Omega.{arith}
 use mathlib.Core.List.{List, []}
@@ -7,7 +7,6 @@ use mathlib.Core.Bool.{Bool, true, false}
 use borrow.Author.Tests.{eqb-true, eqb-false, ne_eqb}
 use lib.Dec.{ltb, eqb}
 use lib.ListN.{length, get_or}
-use Rattle.table.specs.Sum.{pick}
 use Rattle.schedule.specs.declared.Run.{Run}
 use Rattle.schedule.specs.declared.Ran.{Ran}
 use Rattle.schedule.specs.Turn.{unsound, root_ended, no_worker}
@@ -16,7 +15,7 @@ use Rattle.schedule.proofs.Stores.{steady_fits}
 use Rattle.array_machine.proofs.Answers.{steady_full, steady_room}
 use Rattle.run_memory.specs.Memory.{Memory, moved_in, hindrance, turn_in}
 use Rattle.run_memory.specs.Stands.{run_in, Stands}
-use Rattle.run_memory.specs.Runs.{Stopped, stopped, over_in, drive_in, list_run_in, rounds_run_in, report_of}
+use Rattle.run_memory.specs.Runs.{Stopped, over_in, drive_in, list_run_in, rounds_run_in, report_of}
 use Rattle.run_memory.proofs.Refines.{taken_so}
 
 -- the workers of a list and of rounds

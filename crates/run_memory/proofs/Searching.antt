@@ -1,11 +1,19 @@
 -- The search along the links, a thread at a time: what the whole search finds is what the search from here finds, with the threads passed so far.
 use mathlib.Core.Path.{◌≡◌, refl, ap, sym, ◌∙◌}
+use borrow.Author.Tests.{lt-ltb, le-ltb}
 use Prim.Native.Nat.{ℕ, suc, ◌+◌, ◌-◌, ◌≤◌, ◌<◌}
 use native.Mathlib.Omega.{arith}
 use mathlib.Core.List.{List}
 use lib.ListN.{get_or}
 use Rattle.schedule.specs.Machine.{ready}
+use lib.Dec.{ltb}
+use Rattle.std.specs.Prelude.{None, Option, Some}
+use Rattle.table.specs.Sum.{pick}
 use Rattle.schedule.specs.Links.{no_thread, Sought, seek}
+use Rattle.run_memory.specs.declared.list.Sought.{Sought as Answer}
+use Rattle.run_memory.specs.Code.Found.{found}
+use Rattle.table.proofs.Tests.{no_way}
+use mathlib.Core.Bool.{Bool, true, false}
 use Rattle.schedule.proofs.Linked.Links.{seek_stop, seek_hit, seek_next}
 
 -- no step is left
@@ -55,3 +63,33 @@ module _ (status right : List ℕ) (leftmost t k : ℕ) (s : SoFar status right 
         thread = s.thread ∙ ap (λ (r : Sought). r.thread) n;
         passed = omega (arith, s.passed, ap (λ (r : Sought). r.passed) n);
       }
+
+-- ---- as the code answers it
+
+abbrev answer_as : Sought → Bool → Option Answer
+answer_as x b = pick {A = Option Answer} b (Some (record { thread = x.thread; passed = x.passed })) None
+
+pub found_as : (x : Sought) {t k : ℕ} → t < no_thread → (t ≡ x.thread) × (k ≡ x.passed) → Some (record { thread = t; passed = k }) ≡ found x
+found_as x {t} l e =
+    let m : ltb x.thread no_thread ≡ true = ap (λ (y : ℕ). ltb y no_thread) (sym e.0) ∙ lt-ltb t no_thread l in
+    (λ i. Some (record { thread = e.0 i; passed = e.1 i })) ∙ ap (answer_as x) (sym m)
+
+pub none_as : (x : Sought) → no_thread ≡ x.thread → None ≡ found x
+none_as x e =
+    let m : ltb x.thread no_thread ≡ false = ap (λ (y : ℕ). ltb y no_thread) (sym e) ∙ le-ltb no_thread no_thread (omega arith) in
+    ap (answer_as x) (sym m)
+
+-- what an answer says of the search
+pub found_some : (x : Sought) {y : Answer} {z : Option Answer} → z ≡ found x → z ≡ Some y → (ltb x.thread no_thread ≡ true) × ((y.thread ≡ x.thread) × (y.passed ≡ x.passed))
+found_some x {y} e d = go (ltb x.thread no_thread) (sym d ∙ e)
+  where
+    go : (b : Bool) → Some y ≡ answer_as x b → (b ≡ true) × ((y.thread ≡ x.thread) × (y.passed ≡ x.passed))
+    go true q = let p : y ≡ record { thread = x.thread; passed = x.passed } = cc (q) in (refl, (ap (λ (v : Answer). v.thread) p, ap (λ (v : Answer). v.passed) p))
+    go false q = no_way (cc (q))
+
+pub found_none : (x : Sought) {z : Option Answer} → z ≡ found x → z ≡ None → ltb x.thread no_thread ≡ false
+found_none x e d = go (ltb x.thread no_thread) (sym d ∙ e)
+  where
+    go : (b : Bool) → None ≡ answer_as x b → b ≡ false
+    go true q = no_way (cc (q))
+    go false q = refl

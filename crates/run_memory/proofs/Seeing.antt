@@ -16,6 +16,7 @@ use Rattle.schedule.specs.Machine.{drawn, ended}
 use Rattle.array_machine.specs.declared.Totals.{Totals}
 use Rattle.array_machine.specs.Arrays.{Arrays, amount_in, with_statuses}
 use Rattle.array_machine.specs.Turn.{Outcome, unfit, next_fits, amount_fits, act_on}
+use Rattle.std.specs.Prelude.{Option}
 use Rattle.run_memory.specs.declared.preview.Seen.{Seen}
 use Rattle.run_memory.specs.Memory.{Memory}
 use Rattle.run_memory.specs.Blocks.{Bytes, Words, Numbers, Sums, gathered}
@@ -33,10 +34,10 @@ module _ (B : Bytes) (W : Words) (N : Numbers) (S : Sums) (T : Table) (t a x quo
   M = gathered B W N S
 
   -- memory held stays as it is
-  abbrev pub same : Seen
+  abbrev pub same : Option Seen
   same = seeing (Done t a) S.held S.highest quota
 
-  abbrev pub released : Seen
+  abbrev pub released : Option Seen
   released = seeing (Done t a) S.held S.highest 0
 
   pub end_seen : released ≡ seen_in end T t a x quota M

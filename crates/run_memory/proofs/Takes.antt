@@ -4,7 +4,7 @@ use Prim.Native.Nat.{ℕ, ◌+◌, ◌^◌, ◌≤◌, ◌<◌}
 use native.Mathlib.Numerals.{add-one}
 use mathlib.Core.List.{List, [], ◌∷◌}
 use mathlib.Core.Bool.{Bool, true, false, not, ◌&&◌, ◌||◌}
-use borrow.Author.Tests.{lt-ltb, le-ltb, ltb-true, eqb-true, eq-eqb, ne_eqb}
+use borrow.Author.Tests.{lt-ltb, le-ltb, ltb-true, ltb-false, eqb-true, eqb-false, eq-eqb, ne_eqb}
 use lib.Dec.{ltb, eqb}
 use lib.ListN.{get_or, set}
 use lib.Seq.{set-get_or}
@@ -21,9 +21,9 @@ use Rattle.schedule.proofs.Linked.Searches.{seek_ready}
 use Rattle.array_machine.specs.Arrays.{with_statuses}
 use Rattle.array_machine.specs.Turn.{Outcome, moved, unfit, act_on, act_in, seat, seat_of, seat_in, step_from, step_on}
 use Rattle.array_machine.specs.Counted.{counting, busy_after, room_for, turn_on, passed_along}
-use Rattle.run_memory.specs.declared.Spoken.{Spoken}
-use Rattle.run_memory.specs.declared.act.Went.{Went}
-use Rattle.run_memory.specs.Memory.{Memory, memory, worker_in, moved_in, memory_after, hindrance, Told, told, turn_left, taken_in, turn_in, passed_over}
+use Rattle.std.specs.Prelude.{Err, None, Ok, Option, Result, Some, ⊤}
+use Rattle.std.specs.Result.{IsErr, IsErrAnd}
+use Rattle.run_memory.specs.Memory.{Memory, memory, worker_in, moved_in, memory_after, hindrance, told, turn_left, taken_in, turn_in, passed_over, unless, thread_in}
 use Rattle.run_memory.specs.Code.Acts.{Gone, gone, went_to, went_in, seated_status, seated_worker, acted}
 
 -- the memory with this number of turns taken
@@ -146,34 +146,43 @@ module _ (s : List ℕ) (w : ℕ) (M : Memory) where
           let f : o ≡ there = from_there ∙ ap (λ (x : Bool). step_as x) c in
           ap (λ (x : Outcome). told 0 x.reply (memory_after M w (counting w (moved_in M) worker x))) (sym f) ∙ counts (ap (λ (x : Outcome). x.fits) f ∙ c)
 
-      module _ {g : Went} {M' : Memory} (q : gone g M' ≡ acted (kind T (get_or M.arrays.next t 0)) T w t (get_or M.arrays.next t 0) (T.argument (get_or M.arrays.next t 0)) M) where
-        pub goes_unfit : g.fits ≡ false → told 32 Idle M' ≡ taken_in s w M
+      module _ (g : Option Reply) (M' : Memory) (q : gone g M' ≡ acted (kind T (get_or M.arrays.next t 0)) T w t (get_or M.arrays.next t 0) (T.argument (get_or M.arrays.next t 0)) M) where
+        pub goes_unfit : g ≡ None → told 32 Idle M' ≡ taken_in s w M
         unfolding went_in
         goes_unfit h = go there.fits refl
           where
+            unfit_there : (gone g M').fits ≡ false
+            unfit_there = ap (λ (x : Option Reply). (gone x M').fits) h
+
+            same : M' ≡ (gone g M').memory
+            same = sym (ap (λ (x : Option Reply). (gone x M').memory) h)
+
             go : (b : Bool) → there.fits ≡ b → told 32 Idle M' ≡ taken_in s w M
             go true c =
-                let k : g.fits ≡ true = ap (λ (x : Gone). x.fits) q ∙ ap (λ (x : Bool). (gone_as x).fits) c in
-                no_way (cc)
+                let k : (gone g M').fits ≡ true = ap (λ (x : Gone). x.fits) q ∙ ap (λ (x : Bool). (gone_as x).fits) c in
+                no_way (cc (k, unfit_there))
             go false c =
-                let k : M' ≡ M = ap (λ (x : Gone). x.memory) q ∙ ap (λ (x : Bool). (gone_as x).memory) c in
+                let k : M' ≡ M = same ∙ ap (λ (x : Gone). x.memory) q ∙ ap (λ (x : Bool). (gone_as x).memory) c in
                 ap (told 32 Idle) k ∙ stays_unfit c
 
-        pub goes : g.fits ≡ true → told 0 g.reply (counted ((moved_in M).turns + 1) M') ≡ taken_in s w M
+        pub goes : (x : Reply) → g ≡ Some x → told 0 x (counted ((moved_in M).turns + 1) M') ≡ taken_in s w M
         unfolding went_in
-        goes h = go there.fits refl
+        goes x h = go there.fits refl
           where
             after : counted ((moved_in M).turns + 1) (went_to M w there) ≡ memory_after M w (counting w (moved_in M) worker there)
             after = rw add-one
 
-            go : (b : Bool) → there.fits ≡ b → told 0 g.reply (counted ((moved_in M).turns + 1) M') ≡ taken_in s w M
+            as_gone : gone (Some x) M' ≡ gone g M'
+            as_gone = sym (ap (λ (y : Option Reply). gone y M') h)
+
+            go : (b : Bool) → there.fits ≡ b → told 0 x (counted ((moved_in M).turns + 1) M') ≡ taken_in s w M
             go false c =
-                let k : g.fits ≡ false = ap (λ (x : Gone). x.fits) q ∙ ap (λ (x : Bool). (gone_as x).fits) c in
-                no_way (cc)
+                let k : true ≡ false = ap (λ (y : Gone). y.fits) (as_gone ∙ q) ∙ ap (λ (y : Bool). (gone_as y).fits) c in
+                no_way (cc (k))
             go true c =
-                let k : gone g M' ≡ record { fits = true; reply = there.reply; memory = went_to M w there } =
-                q ∙ ap (λ (x : Bool). gone_as x) c in
-                ap (λ (x : Gone). told 0 x.reply (counted ((moved_in M).turns + 1) x.memory)) k ∙ ap (told 0 there.reply) after ∙ goes_there c
+                let k : gone (Some x) M' ≡ record { fits = true; reply = there.reply; memory = went_to M w there } =
+                as_gone ∙ q ∙ ap (λ (y : Bool). gone_as y) c in
+                ap (λ (y : Gone). told 0 y.reply (counted ((moved_in M).turns + 1) y.memory)) k ∙ ap (told 0 there.reply) after ∙ goes_there c
 
 -- ---- before it is taken
 
@@ -261,9 +270,39 @@ module _ (M : Memory) (w : ℕ) where
 pub passed_as : {h k : Bool} (b : Bool) (x : Sought) {p : ℕ} → h ≡ k → p ≡ pick b (passed_along h x) 0 → p ≡ pick b (passed_along k x) 0
 passed_as b x e d = d ∙ ap (λ (y : Bool). pick b (passed_along y x) 0) e
 
--- ---- as the code says it
-pub spoke : {r : Spoken} {n p : ℕ} {x : Reply} {M : Memory} {t : Told} → r ≡ record { number = n; reply = x; passed = p } → told n x M ≡ t → told r.number r.reply M ≡ t
-spoke {r} {n} {p} {x} {M} e d = ap (λ (y : Spoken). told y.number y.reply M) e ∙ d
+-- ---- what the code's answers say
 
-pub passing : {r : Spoken} {n p : ℕ} {x : Reply} (b : Bool) (z : ℕ) → r ≡ record { number = n; reply = x; passed = p } → p ≡ pick (b && eqb n 0) z 0 → r.passed ≡ pick (b && eqb r.number 0) z 0
-passing {r} {n} {p} {x} b z e d = ap (λ (y : Spoken). y.passed) e ∙ d ∙ ap (λ (y : Spoken). pick (b && eqb y.number 0) z 0) (sym e)
+-- of the test of what hinders a turn
+pub free : (n : ℕ) {r : Result ⊤ ℕ} {u : ⊤} → r ≡ unless n → r ≡ Ok u → n ≡ 0
+free n {r} {u} e d = go (eqb n 0) refl (sym d ∙ e)
+  where
+    go : (b : Bool) → eqb n 0 ≡ b → Ok u ≡ pick {A = Result ⊤ ℕ} b (Ok tt) (Err n) → n ≡ 0
+    go true h q = eqb-true n 0 h
+    go false h q = no_way (cc (q))
+
+pub refused_as : (n : ℕ) {r : Result ⊤ ℕ} {k : ℕ} → r ≡ unless n → r ≡ Err k → (k ≡ n) × (k ≡ 0 → ⊥)
+refused_as n {r} {k} e d = go (eqb n 0) refl (sym d ∙ e)
+  where
+    go : (b : Bool) → eqb n 0 ≡ b → Err k ≡ pick {A = Result ⊤ ℕ} b (Ok tt) (Err n) → (k ≡ n) × (k ≡ 0 → ⊥)
+    go true h q = no_way (cc (q))
+    go false h q = let p : k ≡ n = cc (q) in (p, λ z. eqb-false n 0 h (sym p ∙ z))
+
+-- of the thread to go on with
+pub thread_there : (x : ℕ) {r : Option ℕ} {t : ℕ} → r ≡ thread_in x → r ≡ Some t → (t ≡ x) × (t < no_thread)
+thread_there x {r} {t} e d = go (ltb x no_thread) refl (sym d ∙ e)
+  where
+    go : (b : Bool) → ltb x no_thread ≡ b → Some t ≡ pick {A = Option ℕ} b (Some x) None → (t ≡ x) × (t < no_thread)
+    go true h q = let p : t ≡ x = cc (q) in (p, subst (λ (y : ℕ). y < no_thread) (sym p) (ltb-true x no_thread h))
+    go false h q = no_way (cc (q))
+
+pub thread_gone : (x : ℕ) {r : Option ℕ} → r ≡ thread_in x → r ≡ None → no_thread ≤ x
+thread_gone x {r} e d = go (ltb x no_thread) refl (sym d ∙ e)
+  where
+    go : (b : Bool) → ltb x no_thread ≡ b → None ≡ pick {A = Option ℕ} b (Some x) None → no_thread ≤ x
+    go true h q = no_way (cc (q))
+    go false h q = ltb-false x no_thread h
+
+-- of a refusal that `?` hands on
+pub err_is : {A : Type 0} (r : Result A ℕ) {x : ℕ} → IsErr r × IsErrAnd r (λ y. y ≡ x) → r ≡ Err x
+err_is (Ok y) h = absurd h.1
+err_is (Err y) h = ap (λ (z : ℕ). Err z) h.1

@@ -3,3 +3,4 @@ pub mod Writes
 pub mod Acts
 pub mod Seen
 pub mod Laid
+pub mod Found

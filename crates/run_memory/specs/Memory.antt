@@ -1,9 +1,10 @@
 -- A run in memory that is lent: numbers in arrays, and a turn on them, whatever they hold.
-use Rattle.std.specs.Prelude.{ℕ, ◌-◌, ◌^◌, List, [], ◌∷◌, Bool, not, get_or, set, ltb, eqb}
+use Rattle.std.specs.Prelude.{ℕ, ◌-◌, ◌^◌, List, [], ◌∷◌, Bool, not, get_or, set, ltb, eqb, ⊤, Err, None, Ok, Option, Result, Some}
 use Rattle.table.specs.Sum.{pick}
 use Rattle.table.specs.Format.{table_of}
 use Rattle.schedule.specs.declared.Worker.{Worker}
 use Rattle.schedule.specs.declared.Reply.{Reply}
+use Rattle.schedule.specs.declared.Taken.{Taken}
 use Rattle.schedule.specs.declared.Reply.TheVariants.{Idle}
 use Rattle.schedule.specs.Machine.{ended}
 use Rattle.schedule.specs.Links.{no_thread, seek}
@@ -83,6 +84,10 @@ no_row = 0 ∷ 0 ∷ 0 ∷ 0 ∷ 0 ∷ []
 abbrev pub said_of : ℕ → Bool → Said
 said_of number over = pick (eqb number 0) (pick over finished spent) nothing
 
+abbrev pub said_at : Result Bool ℕ → Said
+said_at (Ok over) = pick over finished spent
+said_at (Err n) = nothing
+
 -- of a run: the place, what is said, and the turns taken
 abbrev pub run_row : Said → ℕ → List ℕ
 run_row x turns = 0 ∷ said_code x ∷ turns ∷ []
@@ -110,6 +115,27 @@ pub record Told : Type 0 where
 
 abbrev pub told : ℕ → Reply → Memory → Told
 told number reply M = record { number = number; reply = reply; memory = M }
+
+-- as the code answers it, a refusal's number being never 0: the number, 0 where it is none; the reply; how many threads stood left of one that was taken
+abbrev pub number_in : {A : Type 0} → Result A ℕ → ℕ
+number_in (Ok _) = 0
+number_in (Err n) = n
+
+abbrev pub reply_in : Result Taken ℕ → Reply
+reply_in (Ok t) = t.reply
+reply_in (Err n) = Idle
+
+abbrev pub passed_in : Result Taken ℕ → ℕ
+passed_in (Ok t) = t.passed
+passed_in (Err n) = 0
+
+-- a refusal's number, where it is not 0
+abbrev pub unless : ℕ → Result ⊤ ℕ
+unless n = pick {A = Result ⊤ ℕ} (eqb n 0) (Ok tt) (Err n)
+
+-- a thread of the arrays'
+abbrev pub thread_in : ℕ → Option ℕ
+thread_in t = pick {A = Option ℕ} (ltb t no_thread) (Some t) None
 
 -- a turn that is taken, or 32 where something does not fit
 unfoldable pub turn_left : Memory → ℕ → Left → Told

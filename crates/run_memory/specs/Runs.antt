@@ -1,14 +1,15 @@
 -- Runs over a list of workers and in rounds, in lent memory, whatever it holds.
-use Rattle.std.specs.Prelude.{ℕ, zero, suc, ◌-◌, ◌^◌, List, [], Bool, true, false, ◌&&◌, length, get_or, eqb}
+use Rattle.std.specs.Prelude.{ℕ, zero, suc, ◌-◌, ◌^◌, List, [], Bool, true, false, ◌&&◌, length, get_or, eqb, Err, Ok, Result}
 use Rattle.table.specs.Sum.{pick}
 use Rattle.table.specs.Format.{is, Table, kind}
 use Rattle.table.specs.declared.kinds.Kind.TheVariants.{End as end}
 use Rattle.table.specs.Pass.{refusal}
+use Rattle.run_memory.specs.declared.runs.Stop.{Stop}
 use Rattle.schedule.specs.declared.Report.{Report}
 use Rattle.schedule.specs.declared.Report.TheVariants.{Finished, Spent, Refused}
 use Rattle.schedule.specs.Machine.{ended}
 use Rattle.schedule.specs.Runs.{worker_at}
-use Rattle.run_memory.specs.Memory.{Memory, moved_in, said_of, run_row, Answer, answer, Told, turn_in}
+use Rattle.run_memory.specs.Memory.{Memory, moved_in, said_of, run_row, Answer, answer, Told, turn_in, number_in}
 
 -- where a run stopped: a refusal's number, 0 where there is none; whether at the root's end; turns taken; the memory
 pub record Stopped : Type 0 where
@@ -19,6 +20,14 @@ pub record Stopped : Type 0 where
 
 abbrev pub stopped : ℕ → Bool → ℕ → Memory → Stopped
 stopped number finished turns M = record { number = number; finished = finished; turns = turns; memory = M }
+
+-- as the code answers it
+abbrev pub finished_in : Result Bool ℕ → Bool
+finished_in (Ok over) = over
+finished_in (Err n) = false
+
+abbrev pub stopped_at : Stop → Memory → Stopped
+stopped_at stop M = stopped (number_in stop.finished) (finished_in stop.finished) stop.turns M
 
 -- whether action a of thread t, which a reply says was done, is the root's end: "Thread 0 is the root"
 unfoldable pub ends_root : Table → ℕ → ℕ → Bool

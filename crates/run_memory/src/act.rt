@@ -1,10 +1,9 @@
-// What a worker's turn does with thread t, which it has or takes, by the kind of the thread's next action. Words in quotation marks beside fork, wait and end are those of the thesis, figure
+// What a worker's turn does with thread t, which it has or takes, by the kind of the thread's next action: the reply, or None where something does not fit, and then nothing was moved. Words in quotation marks beside fork, wait and end are those of the thesis, figure
 // 3.2 and the text to it. Each function tests first whether what it would write fits; then it writes, and where the worker keeps a thread that it takes, the thread is held from there on.
 ghost use Rattle.std.specs.Prelude.{◌≡◌, true, false, ℕ, ◌+◌, ◌^◌, ◌<◌, get_or};
 ghost use Rattle.table.specs.Sum.{pick};
 ghost use Rattle.table.specs.Format.{Table, code_at, argument_at, kind};
 ghost use Rattle.table.specs.declared.kinds.Kind.TheVariants.{Work as work, Alloc as alloc, Free as free, Fork as fork, Join as join, End as end, Unknown as unknown};
-ghost use Rattle.schedule.specs.declared.Reply.TheVariants.{Idle, Done};
 ghost use Rattle.schedule.specs.Machine.{ended, nobody};
 ghost use Rattle.array_machine.specs.Turn.{waits_in};
 ghost use Rattle.array_machine.specs.Counted.{busy_after};
@@ -25,39 +24,7 @@ use array_machine::release::release_lent;
 use schedule::statuses::{ENDED, HELD, READY, WAITING};
 use schedule::{Reply, Worker};
 use table::kinds::JOIN;
-use table::larger;
 use table::read::{argument_in, code_in};
-
-// Whether all fitted, and the reply; if not, nothing was moved.
-#[derive(Drop)]
-pub(crate) struct Went {
-    pub(crate) fits: bool,
-    pub(crate) reply: Reply,
-}
-
-fn unfit() -> Went
-    ensures { result ≡ record { fits = false; reply = Idle } }
-{
-    Went {
-        fits: false,
-        reply: Reply::Idle,
-    }
-}
-
-fn done(thread: u16, action: u16) -> Went
-    ensures { result ≡ record { fits = true; reply = Done thread action } }
-{
-    Went {
-        fits: true,
-        reply: Reply::Done { thread, action },
-    }
-}
-
-fn said(reply: Reply) -> Went
-    ensures { result ≡ record { fits = true; reply = reply } }
-{
-    Went { fits: true, reply }
-}
 
 // The set of workers that hold a thread, after worker w's truth value went from one to the other.
 fn busy_after(busy: u16, held: bool, holds: bool, w: usize) -> u16
@@ -183,7 +150,7 @@ fn keep(
 fn hold(sums: &mut [u64; 1027], amount: u64)
     ensures { sums_in sums.new ≡ held_sums amount (sums_in sums.old) }
 {
-    let highest = larger(total_at(&*sums, HIGHEST), amount);
+    let highest = total_at(&*sums, HIGHEST).max(amount);
     put_total(sums, HELD_TOTAL, amount);
     put_total(sums, HIGHEST, highest);
 }
@@ -196,18 +163,21 @@ fn act_work(
     words: &mut [u16; 6163],
     numbers: &mut [u32; 18],
     sums: &[u64; 1027],
-) -> Went
+) -> Option<Reply>
     requires { Seated (memory_of bytes.old words.old numbers.old sums.now) w t a }
     ensures { (T : Table) (x : ℕ) → gone result (memory_of bytes.new words.new numbers.new sums.now)
         ≡ acted work T w t a x (memory_of bytes.old words.old numbers.old sums.now) }
 {
     if !next_fits(a) {
-        return unfit();
+        return None;
     }
     put_row(words, NEXT, t, a + 1);
     let quota = quota_left(&*bytes, &*numbers, w);
     keep(bytes, words, numbers, w, t, quota);
-    done(t, a)
+    Some(Reply::Done {
+        thread: t,
+        action: a,
+    })
 }
 
 fn act_alloc(
@@ -219,7 +189,7 @@ fn act_alloc(
     words: &mut [u16; 6163],
     numbers: &mut [u32; 18],
     sums: &mut [u64; 1027],
-) -> Went
+) -> Option<Reply>
     requires { Seated (memory_of bytes.old words.old numbers.old sums.old) w t a }
     ensures { (T : Table) → gone result (memory_of bytes.new words.new numbers.new sums.new)
         ≡ acted alloc T w t a x (memory_of bytes.old words.old numbers.old sums.old) }
@@ -229,7 +199,7 @@ fn act_alloc(
     if quota < share {
         // preempted: the thread is returned "in the ready state"
         put_back(bytes, words, numbers, w, t, READY);
-        return said(Reply::Quota {
+        return Some(Reply::Quota {
             thread: t,
             wanted: x,
         });
@@ -237,13 +207,16 @@ fn act_alloc(
     let own = amount_at(&*sums, t);
     let all = total_at(&*sums, HELD_TOTAL);
     if !alloc_fits(a, all, own, x as u64) {
-        return unfit();
+        return None;
     }
     put_row(words, NEXT, t, a + 1);
     put_amount(sums, t, own + x as u64);
     hold(sums, all + x as u64);
     keep(bytes, words, numbers, w, t, quota - share);
-    done(t, a)
+    Some(Reply::Done {
+        thread: t,
+        action: a,
+    })
 }
 
 fn act_free(
@@ -255,7 +228,7 @@ fn act_free(
     words: &mut [u16; 6163],
     numbers: &mut [u32; 18],
     sums: &mut [u64; 1027],
-) -> Went
+) -> Option<Reply>
     requires { Seated (memory_of bytes.old words.old numbers.old sums.old) w t a }
     ensures { (T : Table) → gone result (memory_of bytes.new words.new numbers.new sums.new)
         ≡ acted free T w t a x (memory_of bytes.old words.old numbers.old sums.old) }
@@ -263,7 +236,7 @@ fn act_free(
     let own = amount_at(&*sums, t);
     let all = total_at(&*sums, HELD_TOTAL);
     if !free_fits(a, all, own, x as u64) {
-        return unfit();
+        return None;
     }
     put_row(words, NEXT, t, a + 1);
     put_amount(sums, t, own - x as u64);
@@ -271,7 +244,10 @@ fn act_free(
     // "the quota doesn't rise"
     let left = quota_left(&*bytes, &*numbers, w);
     keep(bytes, words, numbers, w, t, left);
-    done(t, a)
+    Some(Reply::Done {
+        thread: t,
+        action: a,
+    })
 }
 
 fn act_fork(
@@ -283,13 +259,13 @@ fn act_fork(
     words: &mut [u16; 6163],
     numbers: &mut [u32; 18],
     sums: &[u64; 1027],
-) -> Went
+) -> Option<Reply>
     requires { Seated (memory_of bytes.old words.old numbers.old sums.now) w t a }
     ensures { (T : Table) → gone result (memory_of bytes.new words.new numbers.new sums.now)
         ≡ acted fork T w t a x (memory_of bytes.old words.old numbers.old sums.now) }
 {
     if !fork_fits(a, x) {
-        return unfit();
+        return None;
     }
     let c = x as u16;
     // preempted at a fork: "insert T into R in its original position", in the ready state
@@ -299,7 +275,10 @@ fn act_fork(
     put_status(bytes, c, READY);
     link_left(words, LEFT, LEFTMOST, c, t);
     link_left(words, UNDER, FIRST, c, t);
-    done(t, a)
+    Some(Reply::Done {
+        thread: t,
+        action: a,
+    })
 }
 
 // The child c has ended.
@@ -312,7 +291,7 @@ fn act_joined(
     words: &mut [u16; 6163],
     numbers: &mut [u32; 18],
     sums: &mut [u64; 1027],
-) -> Went
+) -> Option<Reply>
     requires seated { Seated (memory_of bytes.old words.old numbers.old sums.old) w t a }
     requires c_bound { (c < 1024) × (get_or (bytes_in bytes.old).status c 0 ≡ ended) }
     ensures { (T : Table) → gone result (memory_of bytes.new words.new numbers.new sums.new)
@@ -321,14 +300,17 @@ fn act_joined(
     let own = amount_at(&*sums, t);
     let child = amount_at(&*sums, c);
     if !join_fits(a, own, child) {
-        return unfit();
+        return None;
     }
     put_row(words, NEXT, t, a + 1);
     put_amount(sums, t, own + child);
     put_amount(sums, c, 0);
     let quota = quota_left(&*bytes, &*numbers, w);
     keep(bytes, words, numbers, w, t, quota);
-    done(t, a)
+    Some(Reply::Done {
+        thread: t,
+        action: a,
+    })
 }
 
 fn act_join(
@@ -340,13 +322,13 @@ fn act_join(
     words: &mut [u16; 6163],
     numbers: &mut [u32; 18],
     sums: &mut [u64; 1027],
-) -> Went
+) -> Option<Reply>
     requires { Seated (memory_of bytes.old words.old numbers.old sums.old) w t a }
     ensures { (T : Table) → gone result (memory_of bytes.new words.new numbers.new sums.new)
         ≡ acted join T w t a x (memory_of bytes.old words.old numbers.old sums.old) }
 {
     if 1024 <= x {
-        return unfit();
+        return None;
     }
     let c = x as u16;
     if status_at(&*bytes, c) == ENDED {
@@ -355,7 +337,7 @@ fn act_join(
     // suspends: "insert T into R in its original position", and no more; the second list has no thread that waits
     put_back(bytes, words, numbers, w, t, WAITING);
     unlink(words, UNDER, FIRST, t);
-    said(Reply::Wait {
+    Some(Reply::Wait {
         thread: t,
         child: c,
     })
@@ -385,7 +367,7 @@ fn act_end(
     words: &mut [u16; 6163],
     numbers: &mut [u32; 18],
     sums: &[u64; 1027],
-) -> Went
+) -> Option<Reply>
     requires { Seated (memory_of bytes.old words.old numbers.old sums.now) w t a }
     ensures { (T : Table) (x : ℕ) → T.code ≡ code_at actions.now → T.argument ≡ argument_at actions.now
         → gone result (memory_of bytes.new words.new numbers.new sums.now)
@@ -402,7 +384,10 @@ fn act_end(
     // "delete T from R"
     unlink(words, LEFT, LEFTMOST, t);
     unlink(words, UNDER, FIRST, t);
-    done(t, a)
+    Some(Reply::Done {
+        thread: t,
+        action: a,
+    })
 }
 
 // A number that is no action's kind, which an accepted table has not: an idle turn, with which a worker keeps what it has.
@@ -414,14 +399,14 @@ fn act_unknown(
     words: &mut [u16; 6163],
     numbers: &mut [u32; 18],
     sums: &[u64; 1027],
-) -> Went
+) -> Option<Reply>
     requires { Seated (memory_of bytes.old words.old numbers.old sums.now) w t a }
     ensures { (T : Table) (x : ℕ) → gone result (memory_of bytes.new words.new numbers.new sums.now)
         ≡ acted unknown T w t a x (memory_of bytes.old words.old numbers.old sums.now) }
 {
     let quota = quota_left(&*bytes, &*numbers, w);
     keep(bytes, words, numbers, w, t, quota);
-    said(Reply::Idle)
+    Some(Reply::Idle)
 }
 
 // Worker w goes on with thread t.
@@ -434,7 +419,7 @@ pub(crate) fn go_on(
     words: &mut [u16; 6163],
     numbers: &mut [u32; 18],
     sums: &mut [u64; 1027],
-) -> Went
+) -> Option<Reply>
     requires { Seated (memory_of bytes.old words.old numbers.old sums.old) w t a }
     ensures { (T : Table) → T.code ≡ code_at actions.now → T.argument ≡ argument_at actions.now
         → gone result (memory_of bytes.new words.new numbers.new sums.new)

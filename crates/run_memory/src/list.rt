@@ -5,13 +5,14 @@ ghost use Rattle.schedule.specs.Links.{seek as seek_of};
 ghost use Rattle.run_memory.specs.Blocks.{bytes_in, words_in};
 ghost use Rattle.run_memory.specs.Places.{head_at};
 ghost use Rattle.run_memory.specs.Code.Writes.{linked_left, unlinked};
+ghost use Rattle.run_memory.specs.Code.Found.{found};
 
 use crate::places::{head_at, put_head, put_row, row_at, status_at};
 use links::NO_THREAD;
 use schedule::statuses::READY;
 
-// The leftmost ready thread, or NO_THREAD, and how many threads stand left of it.
-#[derive(Drop)]
+// The leftmost ready thread, and how many threads stand left of it.
+#[derive(Clone, Copy)]
 pub(crate) struct Sought {
     pub(crate) thread: u16,
     pub(crate) passed: u16,
@@ -53,24 +54,18 @@ pub fn unlink(words: &mut [u16; 6163], k: usize, h: usize, t: u16)
 }
 
 // The search along row k, from head h, over 1,024 threads at most.
-pub(crate) fn seek(bytes: &[u8; 1040], words: &[u16; 6163], k: usize, h: usize) -> Sought
-    ensures thread_value { result.thread ≡ (seek_of 1024 (bytes_in bytes.now).status ((words_in words.now).rows k) (head_at h (words_in words.now))).thread }
-    ensures passed_value { result.passed ≡ (seek_of 1024 (bytes_in bytes.now).status ((words_in words.now).rows k) (head_at h (words_in words.now))).passed }
+pub(crate) fn seek(bytes: &[u8; 1040], words: &[u16; 6163], k: usize, h: usize) -> Option<Sought>
+    ensures { result ≡ found (seek_of 1024 (bytes_in bytes.now).status ((words_in words.now).rows k) (head_at h (words_in words.now))) }
 {
     let mut t = head_at(words, h);
-    let mut passed = 0;
-    while passed < 1024 {
+    for passed in 0u16..1024 {
         if NO_THREAD <= t {
-            break;
+            return None;
         }
         if status_at(bytes, t) == READY {
-            return Sought { thread: t, passed };
+            return Some(Sought { thread: t, passed });
         }
         t = row_at(words, k, t);
-        passed += 1;
     }
-    Sought {
-        thread: NO_THREAD,
-        passed,
-    }
+    None
 }

@@ -1,6 +1,6 @@
 // What a turn said, and where a run stopped, as rows of numbers that C reads.
 ghost use Rattle.std.specs.Prelude.{◌≡◌};
-ghost use Rattle.run_memory.specs.Memory.{said_code, reply_row, said_of, run_row};
+ghost use Rattle.run_memory.specs.Memory.{said_code, reply_row, said_at, run_row, number_in};
 
 use crate::runs::Stop;
 use schedule::Reply;
@@ -31,20 +31,24 @@ const FINISHED: u64 = 6;
 
 const SPENT: u64 = 7;
 
-fn said(number: u32, finished: bool) -> u64
-    ensures { result ≡ said_code (said_of number finished) }
+fn said(finished: &Result<bool, u32>) -> u64
+    ensures { result ≡ said_code (said_at finished.now) }
 {
-    if number != 0 {
-        return NOTHING;
+    match finished {
+        Err(_) => NOTHING,
+        Ok(true) => FINISHED,
+        Ok(false) => SPENT,
     }
-    if finished { FINISHED } else { SPENT }
 }
 
 // Puts what is said of a run into the row, and answers the refusal's number.
 pub fn put_run(row: &mut [u64; 3], stop: Stop) -> u32
-    ensures value { result ≡ stop.number }
-    ensures row_after { row.new ≡ run_row (said_of stop.number stop.finished) stop.turns }
+    ensures value { result ≡ number_in stop.finished }
+    ensures row_after { row.new ≡ run_row (said_at stop.finished) stop.turns }
 {
-    *row = [0, said(stop.number, stop.finished), stop.turns];
-    stop.number
+    *row = [0, said(&stop.finished), stop.turns];
+    match stop.finished {
+        Ok(_) => 0,
+        Err(number) => number,
+    }
 }

@@ -1,11 +1,11 @@
 // Runs over a list of workers and in rounds, in the lent memory of a run, whatever it holds: the one loop that takes turns for a call by value and for one from C.
-ghost use Rattle.std.specs.Prelude.{◌≡◌, true, false, ◌<◌, length, get_or, eqb};
+ghost use Rattle.std.specs.Prelude.{◌≡◌, ℕ, true, ◌<◌, length, get_or, eqb, Err, Ok};
 ghost use Rattle.table.specs.Sum.{pick};
 ghost use Rattle.table.specs.Format.{table_of};
 ghost use Rattle.schedule.specs.Machine.{ended};
 ghost use Rattle.schedule.specs.Runs.{worker_at};
 ghost use Rattle.run_memory.specs.Blocks.{bytes_in, numbers_in, memory_of};
-ghost use Rattle.run_memory.specs.Runs.{stopped, ends_root, drive_in, list_run_in, rounds_run_in};
+ghost use Rattle.run_memory.specs.Runs.{stopped_at, ends_root, drive_in, list_run_in, rounds_run_in};
 
 use crate::places::{TURNS, WORKERS, setting_at, total_at};
 use crate::rounds::following;
@@ -15,32 +15,29 @@ use schedule::statuses::ENDED;
 use table::kinds::END;
 use table::read::{byte, code, threads};
 
-// Where a run stopped: a refusal's number, 0 where there is none; whether at the root's end; the turns that it took.
+// Where a run stopped: whether at the root's end, or a refusal's number; and the turns that it took.
 #[derive(Drop)]
 pub struct Stop {
-    pub number: u32,
-    pub finished: bool,
+    pub finished: Result<bool, u32>,
     pub turns: u64,
 }
 
 // A refusal after i turns.
-fn refused(number: u32, i: usize) -> Stop
-    ensures { result ≡ record { number = number; finished = false; turns = i } }
+pub fn refused(number: u32, i: usize) -> Stop
+    ensures { result ≡ record { finished = Err number; turns = i } }
 {
     Stop {
-        number,
-        finished: false,
+        finished: Err(number),
         turns: i as u64,
     }
 }
 
-// The root's end after i turns.
-fn finished(i: usize) -> Stop
-    ensures { result ≡ record { number = 0; finished = true; turns = i } }
+// The run is over after i turns, at the root's end or not.
+pub fn over(finished: bool, i: usize) -> Stop
+    ensures { result ≡ record { finished = Ok finished; turns = i } }
 {
     Stop {
-        number: 0,
-        finished: true,
+        finished: Ok(finished),
         turns: i as u64,
     }
 }
@@ -83,36 +80,30 @@ fn drive(
     sums: &mut [u64; 1027],
 ) -> Stop
     requires { rounds ≡ true → 0 < (numbers_in numbers.old).workers }
-    ensures { stopped result.number result.finished result.turns (memory_of bytes.new words.new numbers.new sums.new)
+    ensures nonzero { (n : ℕ) → result.finished ≡ Err n → n ≡ 0 → ⊥ }
+    ensures run_value { stopped_at result (memory_of bytes.new words.new numbers.new sums.new)
         ≡ drive_in table.now (worker_at order.now rounds (numbers_in numbers.old).workers) limit 0 (memory_of bytes.old words.old numbers.old sums.old) }
 {
     if root_ended(&*bytes) {
-        return finished(0);
+        return over(true, 0);
     }
     let p = setting_at(&*numbers, WORKERS);
-    let mut i: usize = 0;
     let mut next: u32 = 0;
-    while i < limit {
+    for i in 0..limit {
         let w = worker_of(order, rounds, next, i);
         next = following(p, next);
-        let spoken = turn_in(table, w, false, bytes, words, numbers, sums);
-        if spoken.number != 0 {
-            return refused(spoken.number, i);
-        }
-        let reply = spoken.reply;
-        i += 1;
-        let Reply::Done { thread, action } = reply else {
+        let taken = match turn_in(table, w, false, bytes, words, numbers, sums) {
+            Ok(taken) => taken,
+            Err(number) => return refused(number, i),
+        };
+        let Reply::Done { thread, action } = taken.reply else {
             continue;
         };
         if ends_root(table, thread, action) {
-            return finished(i);
+            return over(true, i + 1);
         }
     }
-    Stop {
-        number: 0,
-        finished: false,
-        turns: i as u64,
-    }
+    over(false, limit)
 }
 
 // A run over a list of workers.
@@ -124,7 +115,8 @@ pub fn list_in(
     numbers: &mut [u32; 18],
     sums: &mut [u64; 1027],
 ) -> Stop
-    ensures { stopped result.number result.finished result.turns (memory_of bytes.new words.new numbers.new sums.new)
+    ensures nonzero { (n : ℕ) → result.finished ≡ Err n → n ≡ 0 → ⊥ }
+    ensures run_value { stopped_at result (memory_of bytes.new words.new numbers.new sums.new)
         ≡ list_run_in table.now order.now (memory_of bytes.old words.old numbers.old sums.old) }
 {
     if total_at(&*sums, TURNS) == u64::MAX {
@@ -151,7 +143,8 @@ pub fn rounds_in(
     numbers: &mut [u32; 18],
     sums: &mut [u64; 1027],
 ) -> Stop
-    ensures { stopped result.number result.finished result.turns (memory_of bytes.new words.new numbers.new sums.new)
+    ensures nonzero { (n : ℕ) → result.finished ≡ Err n → n ≡ 0 → ⊥ }
+    ensures run_value { stopped_at result (memory_of bytes.new words.new numbers.new sums.new)
         ≡ rounds_run_in table.now limit (memory_of bytes.old words.old numbers.old sums.old) }
 {
     if total_at(&*sums, TURNS) == u64::MAX {

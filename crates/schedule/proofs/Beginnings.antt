@@ -6,15 +6,14 @@ use mathlib.Core.Logic.Iff
 use mathlib.Core.Logic.{◌↔◌}
 use Prim.Native.Nat.{ℕ, ◌≤◌}
 use mathlib.Core.List.{List, [], ◌∷◌, ◌++◌}
-use mathlib.Core.Bool.{false}
-use borrow.Author.Tests.{le-ltb}
 use Rattle.table.specs.Format.{Table, table_of}
 use Rattle.table.specs.Pass.{try_pass, first_found}
 use Rattle.table.specs.First.{FirstApplies}
-use Rattle.table.specs.Checks.{outside, passes}
+use Rattle.table.specs.Checks.{passes}
 use Rattle.table.specs.Rules.{Rules}
 use Rattle.table.specs.declared.Refusal.{Refusal}
 use Rattle.table.proofs.Tests.{no_way}
+use Rattle.table.proofs.WellFormed.{not_outside}
 use Rattle.table.proofs.Trying.{or_else_nothing}
 use Rattle.table.proofs.Passes.{first_found_append, first_found_nothing, try_pass_from_0, passes_rules, found_exactly}
 use Rattle.schedule.specs.declared.Run.{Run}
@@ -28,9 +27,6 @@ use Rattle.filling.proofs.Runs.{Runs, fill_runs}
 use Rattle.schedule.proofs.Stores.{Fits, setting_fits}
 
 -- ---- 20, 21 and 44
-
-not_outside : (low high x : ℕ) → low ≤ x → x ≤ high → outside low high x ≡ false
-not_outside low high x h k = rw (le-ltb x low, le-ltb high x)
 
 -- neither 20 nor 21 applies exactly when 1 ≤ p ≤ 16 and 1 ≤ K ≤ 16,777,215 (`Fits`, proofs/Stores)
 pub settings_exactly : (p K : ℕ) → (first_found (setting_passes p K) ≡ Ok tt) ↔ Fits p K

@@ -11,6 +11,7 @@ pub mod Linked
 -- the statements that a reader is sent to stand here, and not in a folder, with the worked cases
 pub mod Soundness
 pub mod Stores
+pub mod Occurrences
 pub mod SerialLive
 pub mod ThreadMemory
 pub mod Beginnings

@@ -15,6 +15,7 @@ use mathlib.Core.List.{List, [], ◌∷◌, ◌++◌, Memᴰ}
 use mathlib.Core.Bool.{Bool, true, false, ◌&&◌}
 use lib.ListN.{length, get_or, replicate}
 use lib.Dec.{eqb}
+use Rattle.std.proofs.lemmas.Bool.{and_left}
 use borrow.Author.Tests.{eq-eqb, le-ltb}
 use Rattle.table.specs.Sum.{pick}
 use Rattle.table.specs.Pass.{refusal, try_at}
@@ -113,9 +114,6 @@ same_links_self : (k : Links) → same_links k k ≡ true
 unfolding same_links
 same_links_self k = rw (same_list_self k.left, same_list_self k.right) (eq-eqb k.head k.head refl)
 
-false_left : (a b : Bool) → a ≡ false → (a && b) ≡ false
-false_left a b e = rw e
-
 module _ (r : Run) (h : Steady r) where
   same_links_lem : same_links (links_in r) (laid (list_in r)) ≡ true
   same_links_lem = ap (λ (k : Links). same_links (links_in r) k) (sym h.links) ∙ same_links_self (links_in r)
@@ -126,7 +124,7 @@ module _ (r : Run) (h : Steady r) where
 
   never_blank : old_is_blank (old_of r) ≡ false
   unfolding old_is_blank unlisted
-  never_blank = false_left _ _ (go (is_blank (unlisted (old_of r))) refl)
+  never_blank = and_left _ _ (go (is_blank (unlisted (old_of r))) refl)
     where
       go : (q : Bool) → is_blank (unlisted (old_of r)) ≡ q → q ≡ false
       go true e = absurd (omega (arith, (steady_fits r h).some_worker, ap (λ (x : Run). x.workers) ((blank_exactly (unlisted (old_of r))).0 e) ∙ blank_none))

@@ -10,10 +10,10 @@ use lib.Count.{ones}
 use lib.ListN.{length}
 use borrow.Author.Tests.{eqb-false}
 use Rattle.table.specs.Sum.{pick, sum_to}
-use Rattle.table.specs.Format.{is, kind, table_of}
-use Rattle.table.specs.declared.kinds.Kind.TheVariants.{Alloc as alloc, Free as free}
+use Rattle.table.specs.Format.{kind}
+use Rattle.table.specs.declared.kinds.Kind.TheVariants.{Free as free}
 use Rattle.table.specs.Checks.{end_of, alloc_of}
-use Rattle.table.proofs.ReadBack.{argument_short}
+use Rattle.table.proofs.ReadBack.{alloc_short}
 use Rattle.schedule.specs.declared.Run.{Run}
 use Rattle.schedule.specs.Machine.{unborn, ready, held, ended, next_of, status_of, worker_of}
 use Rattle.schedule.specs.Record.{bytes_of, state_of, table_in}
@@ -29,15 +29,6 @@ use Rattle.schedule.proofs.Sound.Leftmost.{leftmost_enabled}
 use Rattle.order.proofs.Totals.{sum_to_bound}
 use Rattle.schedule.proofs.Sound.WorkerSet.{set_ones}
 use Rattle.order.proofs.CountBelow.{count_bound, ascending_count}
-
--- an argument is read as 24 bits, an alloc's among them
-alloc_short : (s : List ℕ) (a : ℕ) → alloc_of (table_of s) a ≤ 16777215
-unfolding alloc_of
-alloc_short s a = go (is alloc (kind (table_of s) a))
-  where
-    go : (q : Bool) → pick q ((table_of s).argument a) 0 ≤ 16777215
-    go true = omega (arith, argument_short s a)
-    go false = omega arith
 
 module _ (r : Run) (h : Steady r) where
   -- "An unborn thread's next action is its first; an ended one's remains its end."

@@ -34,7 +34,7 @@ abbrev pub head_of : List ℕ → ℕ
 head_of [] = no_thread
 head_of (t ∷ l) = t
 
--- the right neighbour of thread t in a list; noThread for the last, and "on both sides for a thread not in the list"
+-- the right neighbour of thread t in a list; `no_thread` for the last, and "on both sides for a thread not in the list"
 unfoldable pub right_in : List ℕ → ℕ → ℕ
 right_in [] t = no_thread
 right_in (u ∷ l) t = pick (eqb u t) (head_of l) (right_in l t)
@@ -90,7 +90,7 @@ link_last c y k = record { left = set k.left c y; right = set (set k.right y c) 
 
 -- ---- searching
 
--- a thread, noThread where there is none, and how many stand left of it
+-- a thread, `no_thread` where there is none, and how many stand left of it
 pub record Sought : Type 0 where
   pub thread : ℕ
   pub passed : ℕ

@@ -89,7 +89,7 @@ unfoldable pub in_order : Table → List ℕ → List ℕ → ℕ → Bool
 in_order T next status a = not (done_in T next status a) || all_in (done_in T next status) (depends_on T a)
 
 -- "statuses .. follow from what is done": unborn while the fork is not done, the root never; ended at the end alone; one of the five. "An unborn thread's next action is its first" is no
--- test of its own: it follows from this test, nextInBody and inOrder, since an action done of an unborn thread would be done before its fork (`unborn_first`, proofs/Soundness).
+-- test of its own: it follows from this test, `next_in_body` and `in_order`, since an action done of an unborn thread would be done before its fork (`unborn_first`, proofs/Soundness).
 unfoldable pub status_follows : Table → List ℕ → List ℕ → ℕ → Bool
 status_follows T next status t =
     agree (eqb (get_or status t 0) unborn) (ltb 0 t && not (done_in T next status (fork_below T T.actions t)))

@@ -9,25 +9,18 @@ use Rattle.table.specs.Sum.{pick}
 use Rattle.table.specs.Format.{code_of, is, Table, kind}
 use Rattle.table.specs.declared.kinds.Kind.TheVariants.{End as end, Alloc as alloc, Fork as fork, Join as join}
 use Rattle.table.specs.Checks.{end_of, alloc_of}
-use Rattle.table.proofs.Tests.{no_way, and_both}
+use Rattle.table.proofs.Tests.{and_both}
 use Rattle.table.proofs.Bodies.{after_end, end_kind}
 use Rattle.order.proofs.Lawful.{Lawful}
 use Rattle.peaks.specs.Rests.{drawn_at, drawn_before, stretch, rests}
 use Rattle.peaks.proofs.Unpreempted.{rests_join, rests_fork, rests_end, rests_first, stretch_covers}
 use Rattle.sharp.specs.Off.{overdraws, rests_under, rests_any}
-
-or_also : (s t : Bool) → s ≡ true → (s || t) ≡ true
-or_also true t e = refl
-or_also false t e = no_way (cc)
-
-or_else : (s t : Bool) → t ≡ true → (s || t) ≡ true
-or_else true t e = refl
-or_else false t e = e
+use Rattle.std.proofs.lemmas.Bool.{or_left, or_right}
 
 -- a resting place is one under every K
 pub under_rests : (T : Table) (K a : ℕ) → rests T a ≡ true → rests_under T K a ≡ true
 unfolding rests_under
-under_rests T K a e = or_also (rests T a) (overdraws T K a) e
+under_rests T K a e = or_left (rests T a) (overdraws T K a) e
 
 pub under_join : (T : Table) (K a : ℕ) → kind T a ≡ join → rests_under T K a ≡ true
 under_join T K a k = under_rests T K a (rests_join T a k)
@@ -49,7 +42,7 @@ rests_over T l t h = rw (← after_end T l.contents t h) (rests_end T (end_of T 
 pub under_drawn : (T : Table) (K a q : ℕ) → K ≤ q + drawn_before T K a → q < drawn_at T K a → rests_under T K a ≡ true
 unfolding rests_under overdraws
 under_drawn T K a q h i =
-    or_else (rests T a) _ (rw (lt-ltb 0 (drawn_at T K a) (omega arith), lt-ltb K (drawn_before T K a + drawn_at T K a) (omega arith)))
+    or_right (rests T a) _ (rw (lt-ltb 0 (drawn_at T K a) (omega arith), lt-ltb K (drawn_before T K a + drawn_at T K a) (omega arith)))
 
 -- whatever K is
 none_drawn : (T : Table) (K a : ℕ) → is alloc (kind T a) ≡ false → drawn_at T K a ≡ 0
@@ -73,7 +66,7 @@ under_any T K a = go (rests T a) (is alloc (kind T a)) refl
 
 pub any_alloc : (T : Table) (a : ℕ) → kind T a ≡ alloc → rests_any T a ≡ true
 unfolding rests_any is code_of
-any_alloc T a k = or_else (rests T a) (is alloc (kind T a)) (rw k)
+any_alloc T a k = or_right (rests T a) (is alloc (kind T a)) (rw k)
 
 -- where K covers every stretch: the resting places alone
 pub under_covered : (T : Table) (K a : ℕ) → stretch T K ≤ K → a < T.actions → rests_under T K a ≡ true → rests T a ≡ true

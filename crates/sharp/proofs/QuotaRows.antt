@@ -4,7 +4,7 @@ use mathlib.Core.Path.{◌≡◌, refl}
 use Prim.Native.Nat.{ℕ, ◌-◌, ◌≤◌, ◌<◌}
 use native.Mathlib.Omega.{arith}
 use native.Mathlib.Decide.{ℕ_discrete}
-use mathlib.Core.List.{List, ◌++◌}
+use mathlib.Core.List.{List}
 use mathlib.Core.Bool.{Bool, true, false, not, ◌&&◌}
 use lib.Dec.{eqb}
 use borrow.Author.Tests.{not-true, eqb-false, eq-eqb}
@@ -12,16 +12,15 @@ use Rattle.table.specs.Sum.{pick}
 use Rattle.table.specs.Format.{Table}
 use Rattle.table.proofs.Tests.{no_way, and_both}
 use Rattle.table.proofs.Sums.{sum_to_le}
-use Rattle.table.proofs.Levels.{greatest_bound}
 use Rattle.schedule.specs.Machine.{State, unborn, held, ended, status_of, next_of}
 use Rattle.schedule.specs.Begin.{start_state}
-use Rattle.schedule.specs.Memory.{row_state, row_memory, front_rows, peak_memory}
+use Rattle.schedule.specs.Memory.{row_state, row_memory, peak_memory}
 use Rattle.schedule.specs.Sound.{live_in}
 use Rattle.order.specs.Words.{count_below}
 use Rattle.order.proofs.Lawful.{Lawful}
 use Rattle.order.proofs.Lists.{Below}
 use Rattle.schedule.proofs.Preservation.Starts.{start_facts}
-use Rattle.schedule.proofs.Runs.Rows.{front_rest, front_workers, row_facts, row_held}
+use Rattle.schedule.proofs.Runs.Rows.{front_workers, row_facts, row_held}
 use Rattle.schedule.proofs.Sound.Facts.{Facts}
 use Rattle.peaks.proofs.LoadLaw.{row_light}
 use Rattle.peaks.proofs.Unpreempted.{Stands}
@@ -32,11 +31,8 @@ use Rattle.sharp.proofs.Unheld.{unheld_start, unheld_row}
 use Rattle.sharp.proofs.OffHeld.{few_held, off_held}
 use Rattle.sharp.proofs.NeedLaw.{row_need_light}
 use Rattle.sharp.proofs.NeedHeld.{need_held}
-
--- the greatest amount after a front part is within what bounds them all
-pub peak_within_lem : (T : Table) (K B : ℕ) (row : List ℕ) → ((front rest : List ℕ) → row ≡ front ++ rest → row_memory T K front ≤ B) → peak_memory T K row ≤ B
-unfolding peak_memory
-peak_within_lem T K B row h = greatest_bound (row_memory T K) (front_rows row) B (λ front m. let r = front_rest row front m in h front r.0 r.1)
+use Rattle.table.proofs.Tests.{pick_most}
+use Rattle.schedule.proofs.Runs.Rows.{peak_within_lem}
 
 -- at most p threads are off where those that nobody holds are not
 few_off : (T : Table) (p K : ℕ) (st : State) → Facts T p K st → ((t : ℕ) → t < T.threads → Stands (status_of st t) → rests_under T K (next_of st t) ≡ true)
@@ -50,12 +46,8 @@ few_off T p K st f placed =
           (λ t h. go t h (ℕ_discrete (status_of st t) held) (is_off T K st.next st.status t) refl),
     )
   where
-    most : (q : Bool) → pick q 1 0 ≤ 1
-    most true = omega arith
-    most false = omega arith
-
     go : (t : ℕ) → t < T.threads → Dec (status_of st t ≡ held) → (q : Bool) → is_off T K st.next st.status t ≡ q → pick q 1 0 ≤ pick (eqb (status_of st t) held) 1 0
-    go t h (yes e) q i = rw (eq-eqb (status_of st t) held e) (most q)
+    go t h (yes e) q i = rw (eq-eqb (status_of st t) held e) (pick_most q 1)
     go t h (no n) false i = omega arith
     go t h (no n) true i =
         let (a, b) = and_both (not (eqb (status_of st t) unborn) && not (eqb (status_of st t) ended)) _ i in

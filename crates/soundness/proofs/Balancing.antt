@@ -5,15 +5,16 @@ use mathlib.Core.List.{List}
 use mathlib.Core.Bool.{Bool, true, false}
 use native.Mathlib.Decide.{ℕ_discrete}
 use native.Mathlib.Omega.{arith}
-use borrow.Author.Tests.{eqb-true, ltb-true, lt-ltb, ne_eqb}
+use borrow.Author.Tests.{eqb-true, ltb-true, lt-ltb}
 use lib.Dec.{eqb}
 use lib.ListN.{get_or, set, replicate, length-set}
 use lib.Seq.{get_or-set_same, get_or-set_other}
 use Rattle.table.specs.Sum.{pick, sum_to}
-use Rattle.table.specs.Format.{code_of, is, kind_of, Table, kind, table_of}
+use Rattle.table.specs.Format.{code_of, is, Table, kind, table_of}
+use Rattle.table.specs.declared.kinds.Kind.{Kind}
 use Rattle.table.specs.declared.kinds.Kind.TheVariants.{Alloc as alloc, Free as free, Join as join}
 use Rattle.table.specs.Checks.{owner, end_of, alloc_of, free_of}
-use Rattle.table.proofs.Walks.{is_code}
+use Rattle.table.proofs.Tests.{other_is}
 use Rattle.table.proofs.Bodies.{after_end, owner_is, join_above, join_below, body_within}
 use Rattle.schedule.specs.Machine.{ended}
 use Rattle.schedule.specs.Sound.{done_in, next_in_body, in_order, balance_to, progress_in}
@@ -26,7 +27,7 @@ use Rattle.order.proofs.Joins.{join_depends}
 use Rattle.schedule.proofs.Sound.Balances.{balance_bound, balance_step, balance_free, balance_join}
 use Rattle.soundness.specs.Code.Checks.{Accepted, done_to, threads_sound}
 use Rattle.soundness.specs.Code.Balancing.{Balances, Balancing, Balanced}
-use Rattle.soundness.proofs.Lookups.{accepted_lawful, few_threads, thread_below, join_code, not_join}
+use Rattle.soundness.proofs.Lookups.{accepted_lawful, few_threads, thread_below}
 use Rattle.soundness.proofs.Chains.{first_of, second_of}
 use Rattle.soundness.proofs.Done.{in_body}
 
@@ -148,11 +149,8 @@ alloc_small T small a = go (is alloc (kind T a))
     go true = omega (arith, small a)
     go false = omega arith
 
-not_code : (own k : ℕ) → own < 6 → (k ≡ own → ⊥) → is (kind_of own) (kind_of k) ≡ false
-not_code own k h n = is_code own k h ∙ ne_eqb k own n
-
 module _ (s : List ℕ) (n t stop a before : ℕ) (balances : List ℕ) (z : Balancing s n t stop balances) (b : Balanced s t stop a before) (h : a < stop)
-    (k x : ℕ) (e : k ≡ (table_of s).code a) (d : x ≡ (table_of s).argument a) where
+    (k : Kind) (x : ℕ) (e : k ≡ kind (table_of s) a) (d : x ≡ (table_of s).argument a) where
   lawful : Lawful (table_of s)
   lawful = accepted_lawful z.accepted
 
@@ -183,49 +181,42 @@ module _ (s : List ℕ) (n t stop a before : ℕ) (balances : List ℕ) (z : Bal
   step : is join (kind (table_of s) a) ≡ false → balance_to (table_of s) t (suc i) + free_of (table_of s) a ≡ before + alloc_of (table_of s) a
   step j = rw b.value (rw place at (balance_step (table_of s) lawful t below i inside (rw place j)))
 
-  pub past_alloc : k ≡ 2 → Balanced s t stop (a + 1) (before + x)
-  unfolding alloc_of free_of is code_of kind_of
+  pub past_alloc : k ≡ alloc → Balanced s t stop (a + 1) (before + x)
+  unfolding alloc_of free_of is code_of
   past_alloc q =
-      let c : (table_of s).code a ≡ 2 = sym e ∙ q in
+      let c : kind (table_of s) a ≡ alloc = sym e ∙ q in
       found _ (omega (arith, rw c at (step (rw c))))
 
-  free_kind : k ≡ 3 → kind (table_of s) a ≡ free
-  unfolding kind_of
-  free_kind q = rw (← e, q)
+  pub free_room : k ≡ free → x ≤ before
+  free_room q = rw (d, b.value) (rw place at (balance_free (table_of s) lawful t below i inside (rw place (sym e ∙ q))))
 
-  pub free_room : k ≡ 3 → x ≤ before
-  free_room q = rw (d, b.value) (rw place at (balance_free (table_of s) lawful t below i inside (rw place (free_kind q))))
-
-  pub past_free : k ≡ 3 → Balanced s t stop (a + 1) (before - x)
-  unfolding alloc_of free_of is code_of kind_of
+  pub past_free : k ≡ free → Balanced s t stop (a + 1) (before - x)
+  unfolding alloc_of free_of is code_of
   past_free q =
-      let c : (table_of s).code a ≡ 3 = sym e ∙ q in
+      let c : kind (table_of s) a ≡ free = sym e ∙ q in
       found _ (omega (arith, free_room q, rw c at (step (rw c))))
 
-  join_kind : k ≡ 5 → kind (table_of s) a ≡ join
-  join_kind q = join_code (sym e ∙ q)
-
-  child : k ≡ 5 → x < (table_of s).threads
+  child : k ≡ join → x < (table_of s).threads
   child q =
-      rw d (join_below (table_of s) lawful.contents lawful.bodies a (omega (arith, inside, b.from, body_within (table_of s) lawful.contents t below)) (join_kind q))
+      rw d (join_below (table_of s) lawful.contents lawful.bodies a (omega (arith, inside, b.from, body_within (table_of s) lawful.contents t below)) (sym e ∙ q))
 
-  pub child_few : k ≡ 5 → x < 1024
+  pub child_few : k ≡ join → x < 1024
   child_few q = omega (arith, child q, lawful.few_threads)
 
-  child_final : k ≡ 5 → get_or balances x 0 ≡ balance_to (table_of s) x ((table_of s).count x)
-  child_final q = rw d (z.children a b.from h (join_kind q))
+  child_final : k ≡ join → get_or balances x 0 ≡ balance_to (table_of s) x ((table_of s).count x)
+  child_final q = rw d (z.children a b.from h (sym e ∙ q))
 
-  pub child_small : k ≡ 5 → get_or balances x 0 ≤ 137438945280
+  pub child_small : k ≡ join → get_or balances x 0 ≤ 137438945280
   child_small q = rw (child_final q) (bound x (child q) ((table_of s).count x) (omega arith))
 
-  pub past_join : k ≡ 5 → Balanced s t stop (a + 1) (before + get_or balances x 0)
+  pub past_join : k ≡ join → Balanced s t stop (a + 1) (before + get_or balances x 0)
   past_join q =
-      found _ (rw (child_final q, b.value, d) (sym (rw place at (balance_join (table_of s) lawful t below i inside (rw place (join_kind q))))))
+      found _ (rw (child_final q, b.value, d) (sym (rw place at (balance_join (table_of s) lawful t below i inside (rw place (sym e ∙ q))))))
 
-  pub past_other : (k ≡ 2 → ⊥) → (k ≡ 3 → ⊥) → (k ≡ 5 → ⊥) → Balanced s t stop (a + 1) before
-  unfolding alloc_of free_of kind_of
+  pub past_other : (k ≡ alloc → ⊥) → (k ≡ free → ⊥) → (k ≡ join → ⊥) → Balanced s t stop (a + 1) before
+  unfolding alloc_of free_of
   past_other p q r =
-      let u : is alloc (kind (table_of s) a) ≡ false = rw (← e) (not_code 2 k (omega arith) p) in
-      let v : is free (kind (table_of s) a) ≡ false = rw (← e) (not_code 3 k (omega arith) q) in
-      let w : is join (kind (table_of s) a) ≡ false = rw (← e) (not_join r) in
+      let u : is alloc (kind (table_of s) a) ≡ false = rw (← e) (other_is alloc k p) in
+      let v : is free (kind (table_of s) a) ≡ false = rw (← e) (other_is free k q) in
+      let w : is join (kind (table_of s) a) ≡ false = rw (← e) (other_is join k r) in
       found _ (omega (arith, rw (u, v) at (step w)))

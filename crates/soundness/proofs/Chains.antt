@@ -1,9 +1,11 @@
 -- Chains of tests: what the whole chain says where a test fails, and where it does not.
+use Rattle.std.specs.Prelude.{Err, Ok, Result, ⊤, is_err}
 use mathlib.Core.Path.{◌≡◌, refl, sym, ◌∙◌}
 use mathlib.Core.Bool.{Bool, true, false, not, ◌&&◌}
 use Prim.Native.Nat.{ℕ}
 use native.Mathlib.Omega.{arith}
 use borrow.Author.Tests.{not-true, not-false}
+use Rattle.table.specs.declared.Refusal.{Refusal}
 
 -- a test that was asked with `!`
 pub off : {b v : Bool} → b ≡ v → not b ≡ true → v ≡ false
@@ -38,6 +40,15 @@ first_of false b e = e
 pub second_of : (a b : Bool) → (a && b) ≡ true → b ≡ true
 second_of true b e = e
 second_of false b e = cc
+
+-- a finding that was asked with `is_err`
+pub found_nothing : (x : Result ⊤ Refusal) {b : Bool} → b ≡ is_err x → b ≡ false → x ≡ Ok tt
+found_nothing (Ok _) e d = refl
+found_nothing (Err r) e d = cc
+
+pub found_some : (x : Result ⊤ Refusal) {b : Bool} → b ≡ is_err x → b ≡ true → (r : Refusal) × x ≡ Err r
+found_some (Ok _) e d = absurd (let z : ◌≡◌ {A = ℕ} 0 1 = cc in omega arith)
+found_some (Err r) e d = (r, refl)
 
 pub never : {A : Type 0} → false ≡ true → A
 never e = absurd (let z : ◌≡◌ {A = ℕ} 0 1 = cc in omega arith)

@@ -8,8 +8,7 @@ use native.Mathlib.Numerals.{add-one}
 use native.Mathlib.Omega.{arith}
 use borrow.Author.Tests.{eq-eqb, ne_eqb, le-ltb}
 use lib.Dec.{eqb}
-use lib.ListN.{length, get_or, set, length-set}
-use lib.Seq.{ext_get_or}
+use lib.ListN.{length, set, length-set}
 use Rattle.table.specs.Sum.{pick, sum_to, any_below}
 use Rattle.table.specs.Format.{is, Table, kind, table_of}
 use Rattle.table.specs.declared.kinds.Kind.TheVariants.{Join as join}
@@ -17,17 +16,14 @@ use Rattle.table.specs.Checks.{counts_below}
 use Rattle.table.proofs.Tests.{same_is}
 use Rattle.table.proofs.Bodies.{join_below, first_is, counts_all, body_within}
 use Rattle.schedule.specs.Sound.{done_in, joined_in, share_in, shares_in, balance_to, progress_in}
-use Rattle.order.specs.Words.{all_below, same_list}
 use Rattle.order.proofs.Lawful.{Lawful}
 use Rattle.order.proofs.Lists.{set_each}
-use Rattle.order.proofs.Words.{all_below_exactly, eqb_exactly, same_list_exactly}
 use Rattle.schedule.proofs.Sound.Sharing.{shares_exactly}
 use Rattle.soundness.specs.Code.Checks.{Accepted, done_to, threads_sound}
 use Rattle.soundness.specs.Code.Balancing.{Balances, joined_below, Cleared}
 use Rattle.soundness.proofs.Lookups.{accepted_lawful, thread_below}
 use Rattle.soundness.proofs.Done.{in_body}
 use Rattle.soundness.proofs.Balancing.{stop_low, stop_high, below_stop}
-use Rattle.order.proofs.Every.{same_truth}
 
 any_skip : (f : ℕ → Bool) (a b : ℕ) → a ≤ b → ((d : ℕ) → a ≤ d → d < b → f d ≡ false) → any_below f b ≡ any_below f a
 unfolding any_below
@@ -177,15 +173,3 @@ module _ (s : List ℕ) (n : ℕ) (next status amounts : List ℕ) where
               (cleared_undone (table_of s) (accepted_lawful i.accepted) next status amounts a i.cleared ((table_of s).first t + (table_of s).count t) (omega (arith, high))
               (λ d p q. in_body (table_of s) (accepted_lawful i.accepted) next status t thread d (omega (arith, i.from)) q ∙ le-ltb d (done_to next status t) (omega arith)));
         }
-
--- ---- two arrays compared
-
--- the amounts at place t are the same
-abbrev pub same_at : List ℕ → List ℕ → ℕ → Bool
-same_at l k t = eqb (get_or l t 0) (get_or k t 0)
-
-pub same_places : (size : ℕ) (l k : List ℕ) → length l ≡ size → length k ≡ size → all_below (same_at l k) size ≡ same_list l k
-same_places size l k p q =
-    same_truth (all_below (same_at l k) size) (same_list l k)
-    (λ e. (same_list_exactly l k).1 (ext_get_or 0 l k (cc) (λ i h. (eqb_exactly (get_or l i 0) (get_or k i 0)).0 ((all_below_exactly (same_at l k) size).0 e i (omega arith)))))
-    (λ e. (all_below_exactly (same_at l k) size).1 (λ i h. let d : l ≡ k = (same_list_exactly l k).0 e in (eqb_exactly (get_or l i 0) (get_or k i 0)).1 (rw d)))

@@ -7,7 +7,6 @@ ghost use Rattle.soundness.specs.Code.Checks.{Accepted, Placed};
 ghost use Rattle.soundness.specs.Code.Adding.{Adds, Added};
 
 use crate::bodies::done_to;
-use table::kinds::{alloc_of, free_of};
 use table::read;
 
 #[derive(Drop)]
@@ -24,11 +23,11 @@ fn thread_sums(table: &[u8], n: usize, t: usize, stop: usize, before: Sums) -> S
 {
     let mut allocs = before.allocs;
     let mut frees = before.frees;
+    let actions = read::bodies(table, n);
     for a in read::first(table, t)..stop {
-        let k = read::code(table, n, a);
-        let x = read::argument(table, n, a);
-        allocs += alloc_of(k, x);
-        frees += free_of(k, x);
+        let action = read::action_in(actions, a);
+        allocs += action.alloc();
+        frees += action.free();
     }
     Sums { allocs, frees }
 }

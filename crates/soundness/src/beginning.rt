@@ -1,44 +1,27 @@
 // The checks of a beginning, the table's own and 20, 21, 44, and what a run begins with.
-ghost use Rattle.std.specs.Prelude.{◌≡◌, ◌<◌, replicate, Err};
+ghost use Rattle.std.specs.Prelude.{◌≡◌, replicate};
 ghost use Rattle.table.specs.Format.{table_of};
 ghost use Rattle.table.specs.Rules.{Rules};
-ghost use Rattle.table.specs.Pass.{first_found, refusal};
-ghost use Rattle.table.specs.Checks.{outside as is_outside};
+ghost use Rattle.table.specs.Pass.{first_found};
 ghost use Rattle.schedule.specs.Begin.{setting_passes};
 ghost use Rattle.order.specs.Firsts.{firsts};
 ghost use Rattle.order.specs.Words.{filled};
 ghost use Rattle.soundness.specs.Code.Checks.{Accepted};
-ghost use Rattle.soundness.specs.Tested.{parents_in, begin_filling};
+ghost use Rattle.soundness.specs.Tested.{parents_in, begin_answer};
 
 use crate::bodies::fill_forks;
-use filling::{Filling, measure};
-use table::{Refusal, read};
-
-fn refuse(number: u8, place: usize) -> Result<(), Refusal>
-    requires { place < 65536 }
-    ensures { result ≡ Err (refusal number place) }
-{
-    Err(Refusal {
-        number,
-        place: place as u16,
-    })
-}
-
-fn outside(low: u32, high: u32, x: u32) -> bool
-    ensures { result ≡ is_outside low high x }
-{
-    x < low || high < x
-}
+use filling::measure;
+use table::{Refusal, outside, read};
 
 // 20: "p outside 1 to 16"; 21: "K outside its range".
 pub fn settings_fault(p: u8, quota: u32) -> Result<(), Refusal>
     ensures { result ≡ first_found (setting_passes p quota) }
 {
-    if outside(1, 16, p as u32) {
-        return refuse(20, 0);
+    if outside(1, 16, p as usize) {
+        return Err(Refusal::new(20, 0));
     }
-    if outside(1, 16777215, quota) {
-        return refuse(21, 0);
+    if outside(1, 16777215, quota as usize) {
+        return Err(Refusal::new(21, 0));
     }
     Ok(())
 }
@@ -51,19 +34,13 @@ pub fn begin_fault(
     quota: u32,
     rises: &mut [u64; 1024],
     falls: &mut [u64; 1024],
-) -> Filling
-    ensures value { result ≡ begin_filling table.now p quota }
+) -> Result<usize, Refusal>
+    ensures value { result ≡ begin_answer table.now p quota }
     ensures rises_after { (rises.new ≡ replicate 1024 0) × (falls.new ≡ replicate 1024 0) }
 {
-    if outside(1, 16, p as u32) {
-        let found = checks::check_in(table, rises, falls);
-        if let Err(_) = found {
-            return Filling { found, bytes: 0 };
-        }
-        return Filling {
-            found: refuse(20, 0),
-            bytes: 0,
-        };
+    if outside(1, 16, p as usize) {
+        checks::check_in(table, rises, falls)?;
+        return Err(Refusal::new(20, 0));
     }
     measure(table, quota, rises, falls)
 }

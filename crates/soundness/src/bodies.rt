@@ -11,7 +11,7 @@ ghost use Rattle.soundness.specs.Code.Checks.{Accepted, Placed, Forks, Noted, do
 ghost use Rattle.soundness.specs.Tested.{parents_in};
 
 use schedule::statuses::{ENDED, UNBORN, WAITING};
-use table::kinds::{FORK, JOIN};
+use table::kinds::Kind;
 use table::read;
 
 // A 16-bit number: that it is in its range is known of a parameter, not of an element.
@@ -69,7 +69,7 @@ fn note_fork(
     requires noted { Noted (table_of table.now) forks.old parents.old a }
     ensures { Noted (table_of table.now) forks.new parents.new (a + 1) }
 {
-    if read::code(table, n, a) == FORK {
+    if let Kind::Fork = read::kind(table, n, a) {
         let c = read::argument(table, n, a);
         forks[c] = a as u16;
         parents[c] = t as u16;
@@ -83,13 +83,13 @@ pub(crate) fn fill_forks(table: &[u8], n: usize, forks: &mut [u16; 1024], parent
     ensures forks { Forks (table_of table.now) forks.new }
     ensures parents_after { parents.new ≡ parents_in (table_of table.now) }
 {
-    let mut a = 0;
+    let mut first = 0;
     for t in 0..n {
-        let stop = a + read::count(table, t);
-        while a < stop {
+        let stop = first + read::count(table, t);
+        for a in first..stop {
             note_fork(table, n, t, a, forks, parents);
-            a += 1;
         }
+        first = stop;
     }
 }
 
@@ -132,9 +132,9 @@ fn join_done(table: &[u8], n: usize, a: usize, next: &[u16; 1024], status: &[u8;
     requires a_bound { a < (table_of table.now).actions }
     ensures { result ≡ join_done (table_of table.now) next.now status.now a }
 {
-    if read::code(table, n, a) != JOIN {
+    let Kind::Join = read::kind(table, n, a) else {
         return true;
-    }
+    };
     let c = read::argument(table, n, a);
     is_done(c, end_of(table, c), next, status)
 }
@@ -251,9 +251,9 @@ fn waits_at_join(table: &[u8], n: usize, t: usize, next: &[u16; 1024], status: &
         return true;
     }
     let a = wide(next[t]);
-    if read::code(table, n, a) != JOIN {
+    let Kind::Join = read::kind(table, n, a) else {
         return false;
-    }
+    };
     let c = read::argument(table, n, a);
     status[c] != ENDED
 }

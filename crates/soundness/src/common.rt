@@ -81,8 +81,7 @@ fn common_holds(
     requires parents { Parents (table_of table.now) parents.now }
     ensures { result ≡ common_sound table.now p quota next.now status.now amounts.now workers busy held highest }
 {
-    let found = settings_fault(p, quota);
-    if let Err(_) = found {
+    if settings_fault(p, quota).is_err() {
         return false;
     }
     if !threads_sound(table, n, forks, parents, next, status) {
@@ -123,8 +122,7 @@ fn common_parts(
 {
     *forks = [0; 1024];
     *parents = [0; 1024];
-    let found = checks::check_in(table, rises, falls);
-    if let Err(_) = found {
+    if checks::check_in(table, rises, falls).is_err() {
         return false;
     }
     let n = read::threads(table);

@@ -34,11 +34,8 @@ pub(crate) fn one_holder_each(n: usize, status: &[u8; 1024], workers: [Worker; 1
     ensures { result ≡ all_below (one_holder status.now workers) n }
 {
     let mut counts = [0u8; 1024];
-    let mut w = 0;
-    while w < 16 {
-        let x = workers[w];
+    for x in workers {
         let t = x.thread as usize;
-        w += 1;
         if x.holds {
             if t < 1024 {
                 counts[t] += 1;
@@ -63,8 +60,8 @@ fn worker_right(n: usize, p: u8, quota: u32, w: usize, x: Worker) -> bool
 pub(crate) fn workers_right(n: usize, p: u8, quota: u32, workers: [Worker; 16]) -> bool
     ensures { result ≡ all_below (worker_right n p quota workers) 16 }
 {
-    for w in 0..16 {
-        if !worker_right(n, p, quota, w, workers[w]) {
+    for (w, x) in workers.iter().enumerate() {
+        if !worker_right(n, p, quota, w, *x) {
             return false;
         }
     }
@@ -76,11 +73,8 @@ pub(crate) fn busy_right(busy: u16, workers: [Worker; 16]) -> bool
     ensures { result ≡ eqb busy (set_of workers) }
 {
     let mut set: u32 = 0;
-    let mut w = 16;
-    while 0 < w {
-        w -= 1;
-        let x = workers[w];
-        if x.holds {
+    for w in (0..16).rev() {
+        if workers[w].holds {
             set = 1 + 2 * set;
         } else {
             set = 2 * set;

@@ -10,7 +10,7 @@ ghost use Rattle.soundness.specs.Code.Checks.{Accepted, Placed, Lengths, Numbers
 ghost use Rattle.soundness.specs.Code.Order.{Inside, Numbering, NumbersTo};
 
 use crate::bodies::end_of;
-use table::kinds::FORK;
+use table::kinds::Kind;
 use table::read;
 
 // How many actions come with action a: itself, and those of the child that it forks.
@@ -20,10 +20,10 @@ fn span(table: &[u8], n: usize, a: usize, lengths: &[u16; 1024]) -> usize
     requires lengths { Lengths (table_of table.now) lengths.now (owner (table_of table.now) a + 1) }
     ensures { length (serial (table_of table.now) a) ≡ result + length (serial (table_of table.now) (a + 1)) }
 {
-    if read::code(table, n, a) != FORK {
-        return 1;
+    match read::kind(table, n, a) {
+        Kind::Fork => 1 + lengths[read::argument(table, n, a)] as usize,
+        _ => 1,
     }
-    1 + lengths[read::argument(table, n, a)] as usize
 }
 
 // How many actions a thread has with its children, from the lengths of the threads above it.
@@ -47,9 +47,7 @@ fn fill_lengths(table: &[u8], n: usize, lengths: &mut [u16; 1024])
     requires lengths_len { length lengths.old ≡ 1024 }
     ensures { Lengths (table_of table.now) lengths.new 0 }
 {
-    let mut t = n;
-    while 0 < t {
-        t -= 1;
+    for t in (0..n).rev() {
         let total = thread_length(table, n, t, lengths);
         lengths[t] = total as u16;
     }
@@ -63,9 +61,9 @@ fn pass(table: &[u8], n: usize, a: usize, number: usize, numbers: &mut [u16; 102
     ensures { NumbersTo (table_of table.now) (owner (table_of table.now) a) (a + 1) result numbers.old numbers.new }
 {
     let after = number + 1;
-    if read::code(table, n, a) != FORK {
+    let Kind::Fork = read::kind(table, n, a) else {
         return after;
-    }
+    };
     let c = read::argument(table, n, a);
     let length = numbers[c] as usize;
     numbers[c] = after as u16;
@@ -145,12 +143,10 @@ fn rising(numbers: &[u16; 1024], list: &[u16; 1024], len: usize) -> bool
     requires by_index { (i : ℕ) → i < len → get_or list.now i 0 < 1024 }
     ensures { result ≡ rises (λ t. get_or numbers.now t 0) (take len list.now) }
 {
-    let mut i = 0;
-    while i + 1 < len {
-        if number_at(numbers, list, i + 1) <= number_at(numbers, list, i) {
+    for i in 1..len {
+        if number_at(numbers, list, i) <= number_at(numbers, list, i - 1) {
             return false;
         }
-        i += 1;
     }
     true
 }

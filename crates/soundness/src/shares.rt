@@ -7,7 +7,7 @@ ghost use Rattle.soundness.specs.Code.Checks.{Accepted, threads_sound};
 ghost use Rattle.soundness.specs.Code.Balancing.{Balances, Balancing, Balanced, Cleared};
 
 use crate::bodies::done_to;
-use table::kinds::{ALLOC, FREE, JOIN};
+use table::kinds::Kind;
 use table::read;
 
 // What thread t's actions come to past action a, from what those below it come to.
@@ -24,18 +24,13 @@ fn balance_after(
     requires balanced { (Balanced table.now t stop a before) × (a < stop) }
     ensures { Balanced table.now t stop (a + 1) result }
 {
-    let k = read::code(table, n, a);
     let x = read::argument(table, n, a);
-    if k == ALLOC {
-        return before + x as u64;
+    match read::kind(table, n, a) {
+        Kind::Alloc => before + x as u64,
+        Kind::Free => before - x as u64,
+        Kind::Join => before + balances[x],
+        _ => before,
     }
-    if k == FREE {
-        return before - x as u64;
-    }
-    if k == JOIN {
-        return before + balances[x];
-    }
-    before
 }
 
 // What thread t's actions below stop come to.
@@ -63,9 +58,7 @@ fn fill_balances(
     requires balances_value { balances.old ≡ replicate 1024 0 }
     ensures { Balances (table_of table.now) next.now status.now balances.new 0 }
 {
-    let mut t = n;
-    while 0 < t {
-        t -= 1;
+    for t in (0..n).rev() {
         let stop = done_to(t, next, status);
         let sum = thread_balance(table, n, t, stop, balances);
         balances[t] = sum;
@@ -86,7 +79,7 @@ fn clear_child(
     requires cleared { Cleared (table_of table.now) next.now status.now amounts.old a }
     ensures { Cleared (table_of table.now) next.now status.now amounts.new (a + 1) }
 {
-    if read::code(table, n, a) == JOIN {
+    if let Kind::Join = read::kind(table, n, a) {
         let c = read::argument(table, n, a);
         amounts[c] = 0;
     }
@@ -113,19 +106,6 @@ fn clear_joined(
     }
 }
 
-// The same amounts, thread by thread.
-fn same_amounts(amounts: &[u64], others: &[u64; 1024]) -> bool
-    requires { (length amounts.now ≡ 1024) × (length others.now ≡ 1024) }
-    ensures { result ≡ same_list amounts.now others.now }
-{
-    for t in 0..1024 {
-        if amounts[t] != others[t] {
-            return false;
-        }
-    }
-    true
-}
-
 // "A record where an amount differs from the thread's balance so far, or from 0 once it is joined, is not sound". The shares are kept in `shares`, whatever it held.
 pub(crate) fn amounts_right(
     table: &[u8],
@@ -142,5 +122,5 @@ pub(crate) fn amounts_right(
     *shares = [0; 1024];
     fill_balances(table, n, next, status, shares);
     clear_joined(table, n, next, status, shares);
-    same_amounts(amounts, shares)
+    *amounts == *shares
 }

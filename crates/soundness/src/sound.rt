@@ -1,12 +1,12 @@
 // The test of a record, on its parts in lent memory and by value: the common part, the list's clauses and its links, turns taken; by value also the table's length and the bytes past it.
-ghost use Rattle.std.specs.Prelude.{◌≡◌, true, ◌≤◌, length, take, replicate};
+ghost use Rattle.std.specs.Prelude.{◌≡◌, true, ◌≤◌, None, Some, length, take, replicate};
 ghost use Rattle.table.specs.Format.{table_of};
+ghost use Rattle.table.specs.Sum.{pick};
 ghost use Rattle.schedule.specs.Record.{table_in};
 ghost use Rattle.schedule.specs.Sound.{listed as listed_of, sound as sound_of};
 ghost use Rattle.soundness.specs.Code.Checks.{Accepted, Placed, links_sound, copy_sound};
 ghost use Rattle.soundness.specs.Tested.{parents_in, parents_if, sound_on};
 
-use crate::Tested;
 use crate::common::test_common;
 use crate::listed::list_follows;
 use crate::numbers::in_serial_order;
@@ -155,15 +155,11 @@ pub fn copy_sound(run: Run) -> bool
 }
 
 // The same of a record by value.
-pub(crate) fn sound(run: Run) -> Tested
-    ensures { result ≡ record { passed = sound_of run; parents = parents_if (sound_of run) (table_in run) } }
+pub(crate) fn sound(run: Run) -> Option<[u16; 1024]>
+    ensures { result ≡ pick (sound_of run) (Some (parents_in (table_in run))) None }
 {
-    let mut parents = [0u16; 1024];
     if !copy_sound(run) {
-        return Tested {
-            passed: false,
-            parents,
-        };
+        return None;
     }
     let length = run.length as usize;
     let table = run.table;
@@ -177,6 +173,7 @@ pub(crate) fn sound(run: Run) -> Tested
     let mut rises = [0u64; 1024];
     let mut falls = [0u64; 1024];
     let mut forks = [0u16; 1024];
+    let mut parents = [0u16; 1024];
     let mut row = [0u16; 1024];
     let passed = test_in(
         bytes,
@@ -199,5 +196,5 @@ pub(crate) fn sound(run: Run) -> Tested
         &mut parents,
         &mut row,
     );
-    Tested { passed, parents }
+    if passed { Some(parents) } else { None }
 }

@@ -21,7 +21,7 @@ use Rattle.table.proofs.Bodies.{first_is, first_next, after_end, fork_below_lem,
 
 -- ---- tests
 
-is_empty_true : (l : List ℕ) → is_empty l ≡ true → l ≡ []
+pub is_empty_true : (l : List ℕ) → is_empty l ≡ true → l ≡ []
 is_empty_true [] e = refl
 is_empty_true (x ∷ l) e = cc
 
@@ -34,7 +34,7 @@ pub and_second : (s t : Bool) → (s && t) ≡ false → s ≡ true → t ≡ fa
 and_second true t e p = e
 and_second false t e p = cc
 
--- anyBelow is true exactly where some number below passes
+-- `any_below` is true exactly where some number below passes
 pub some_any_below : (f : ℕ → Bool) (k i : ℕ) → i < k → f i ≡ true → any_below f k ≡ true
 unfolding any_below
 some_any_below f zero i h e = no_way (omega arith)

@@ -10,7 +10,7 @@ use borrow.Author.Tests.{ltb-false}
 use Rattle.table.specs.Sum.{pick, sum_to, sum_over, greatest, greatest_to}
 use Rattle.table.specs.Format.{code_of, is, Table, kind}
 use Rattle.table.specs.declared.kinds.Kind.{Kind}
-use Rattle.table.specs.declared.kinds.Kind.TheVariants.{End as end, Alloc as alloc, Free as free, Fork as fork}
+use Rattle.table.specs.declared.kinds.Kind.TheVariants.{End as end, Alloc as alloc, Free as free, Fork as fork, Join as join}
 use Rattle.table.specs.Checks.{open_before, alloc_of, free_of, whole, part_of, balance, balance_below0}
 use Rattle.table.specs.Rules.{ContentRules, BodyRules, NestRules, BalanceRules}
 use Rattle.table.specs.Serial.{serial, held_after, fronts, peak_of}
@@ -34,7 +34,7 @@ Held up down u d [] = d ≤ u
 Held up down u d (x ∷ l) = (d ≤ u) × Held up down (u + up x) (d + down x) l
 
 -- the highest amount held after a front part
-top_from : (ℕ → ℕ) → (ℕ → ℕ) → ℕ → ℕ → List ℕ → ℕ
+unfoldable pub top_from : (ℕ → ℕ) → (ℕ → ℕ) → ℕ → ℕ → List ℕ → ℕ
 top_from up down u d [] = u - d
 top_from up down u d (x ∷ l) = max (u - d) (top_from up down (u + up x) (d + down x) l)
 
@@ -89,7 +89,7 @@ module _ (up down : ℕ → ℕ) where
   top_bound [] u d = omega arith
   top_bound (x ∷ l) u d = omega (arith, top_bound l (u + up x) (d + down x))
 
-  top_fronts : (l : List ℕ) (u d : ℕ) (f : List ℕ → ℕ) → ((q : List ℕ) → f q ≡ u + sum_over up q - (d + sum_over down q))
+  pub top_fronts : (l : List ℕ) (u d : ℕ) (f : List ℕ → ℕ) → ((q : List ℕ) → f q ≡ u + sum_over up q - (d + sum_over down q))
       → greatest f (fronts l) ≡ top_from up down u d l
   unfolding top_from sum_over greatest fronts
   top_fronts [] u d f h = omega (arith, h [])
@@ -97,7 +97,7 @@ module _ (up down : ℕ → ℕ) where
       rw (greatest_map f (x ∷◌) (fronts l))
       (omega (arith, h [], top_fronts l (u + up x) (d + down x) (λ q. f (x ∷ q)) (λ q. omega (arith, h (x ∷ q)))))
 
-sum_over_le : (f g : ℕ → ℕ) (l : List ℕ) → ((x : ℕ) → Memᴰ x l → f x ≤ g x) → sum_over f l ≤ sum_over g l
+pub sum_over_le : (f g : ℕ → ℕ) (l : List ℕ) → ((x : ℕ) → Memᴰ x l → f x ≤ g x) → sum_over f l ≤ sum_over g l
 unfolding sum_over
 sum_over_le f g [] h = omega arith
 sum_over_le f g (x ∷ l) h = omega (arith, sum_over_le f g l (λ y m. h y (Memᴰ.tail m)), h x (Memᴰ.head refl))
@@ -109,11 +109,15 @@ max_over : (x y z : ℕ) → max x (max (x + y) z) ≡ max (x + y) z
 max_over x y z = omega arith
 
 -- an action of a kind that neither draws nor gives back
-no_amount : (T : Table) (a : ℕ) (k : Kind) → kind T a ≡ k → is alloc k ≡ false → is free k ≡ false → (alloc_of T a ≡ 0) × (free_of T a ≡ 0)
+pub no_amount : (T : Table) (a : ℕ) (k : Kind) → kind T a ≡ k → is alloc k ≡ false → is free k ≡ false → (alloc_of T a ≡ 0) × (free_of T a ≡ 0)
 unfolding alloc_of free_of
 no_amount T a k e p q = (rw (e, p), rw (e, q))
 
-peak_of_top : (T : Table) (l : List ℕ) → peak_of T l ≡ top_from (alloc_of T) (free_of T) 0 0 l
+pub join_none : (T : Table) (a : ℕ) → kind T a ≡ join → (alloc_of T a ≡ 0) × (free_of T a ≡ 0)
+unfolding is code_of
+join_none T a k = no_amount T a join k refl refl
+
+pub peak_of_top : (T : Table) (l : List ℕ) → peak_of T l ≡ top_from (alloc_of T) (free_of T) 0 0 l
 unfolding peak_of held_after
 peak_of_top T l = top_fronts (alloc_of T) (free_of T) l 0 0 (held_after T) (λ q. omega arith)
 

@@ -15,6 +15,7 @@ use Rattle.table.proofs.Tests.{is_true, fork_no_end}
 use Rattle.table.proofs.Bodies.{after_end, first_within, end_within, owner_of_first, owner_of_end, owner_below_lem, owner_first, owner_end, end_kind, end_last}
 use Rattle.table.proofs.Bodies.{fork_above, fork_below_lem, join_below, next_within, next_owner}
 use Rattle.table.proofs.Nesting.{open_join, open_forked, fork_found, fork_exists}
+use Rattle.table.proofs.NestedThreads.{parent_lower}
 use Rattle.table.proofs.Serial.{serial_end, serial_fork, serial_step, serial_bound}
 
 -- ---- the definition
@@ -85,20 +86,13 @@ module _ (T : Table) (c : ContentRules T) (b : BodyRules T) where
       omega (arith, rest_end t l, rest_along (end_of T t - a) a (end_of T t) e (end_within T c t l) (sym (owner_of_end T c t l)))
 
 module _ (T : Table) (c : ContentRules T) (b : BodyRules T) (n : NestRules T) (f : ForkRules T) where
-  -- the fork that is found for a thread is in one of a lower number
-  fork_lower : (t : ℕ) → 0 < t → t < T.threads → owner T (fork_below T T.actions t) < t
-  fork_lower t h k =
-      let x = fork_exists T c b n f t h k in
-      let e : fork_below T T.actions t ≡ x.0 = rw x.3 at (fork_found T c b n x.0 x.1 x.2) in
-      rw e (omega (arith, fork_above T c b x.0 x.1 x.2))
-
   after_enough : (k j t : ℕ) → t < T.threads → t < k → t < j → after_within k T t ≡ after_within j T t
   unfolding after_within
   after_enough zero j t h p q = omega arith
   after_enough (suc k) zero t h p q = omega arith
   after_enough (suc k) (suc j) zero h p q = refl
   after_enough (suc k) (suc j) (suc t) h p q =
-      let l : owner T (fork_below T T.actions (suc t)) < suc t = fork_lower (suc t) (omega arith) h in
+      let l : owner T (fork_below T T.actions (suc t)) < suc t = parent_lower T c b n f (suc t) (omega arith) h in
       rw (after_enough k j (owner T (fork_below T T.actions (suc t))) (omega arith) (omega arith) (omega arith))
 
   pub after_root : 0 < T.threads → after T 0 ≡ rest T (T.first 0)

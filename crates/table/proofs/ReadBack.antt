@@ -6,7 +6,10 @@ use mathlib.Core.Path.{◌≡◌, refl, ap, ◌∙◌}
 use mathlib.Core.List.{List, [], ◌∷◌, ◌++◌, flatten}
 use lib.ListN.{length, get_or, take, drop, length-append, get_or-append}
 use lib.Seq.{get_or-append-add, get_or-drop}
-use Rattle.table.specs.Format.{Table, table_of, bodies_of, u16_at, u24_at}
+use Rattle.table.specs.Format.{Table, table_of, bodies_of, u16_at, u24_at, is, kind}
+use Rattle.table.specs.declared.kinds.Kind.TheVariants.{Alloc as alloc, Free as free}
+use Rattle.table.specs.Checks.{alloc_of, free_of}
+use Rattle.table.proofs.Tests.{pick_most}
 use Rattle.table.specs.Written.{Action, pair_row, action_row, entry_rows, action_rows, table_rows, written}
 
 -- ---- rows of four
@@ -189,3 +192,12 @@ module _ (bs : List (List Action)) where
 pub argument_short : (s : List ℕ) (a : ℕ) → (table_of s).argument a < 16777216
 unfolding table_of
 argument_short s a = mod-lt (u24_at (bodies_of s) _) (omega arith)
+
+-- an alloc's and a free's among them
+pub alloc_short : (s : List ℕ) (a : ℕ) → alloc_of (table_of s) a ≤ 16777215
+unfolding alloc_of
+alloc_short s a = omega (arith, argument_short s a, pick_most (is alloc (kind (table_of s) a)) ((table_of s).argument a))
+
+pub free_short : (s : List ℕ) (a : ℕ) → free_of (table_of s) a ≤ 16777215
+unfolding free_of
+free_short s a = omega (arith, argument_short s a, pick_most (is free (kind (table_of s) a)) ((table_of s).argument a))

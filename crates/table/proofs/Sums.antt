@@ -1,4 +1,4 @@
--- Laws of sums: sum_to over the numbers below a bound, sumOver over a list.
+-- Laws of sums: `sum_to` over the numbers below a bound, `sum_over` over a list, and `greatest_to`.
 use mathlib.Core.Path.{◌≡◌, refl}
 use Prim.Native.Nat.{ℕ, zero, suc, ◌+◌, ◌*◌, ◌≤◌, ◌<◌}
 use native.Mathlib.Omega.{arith}
@@ -6,7 +6,7 @@ use native.Mathlib.Nat.{mul-suc}
 use native.Mathlib.Decide.{ℕ_discrete}
 use mathlib.Core.List.{List, [], ◌∷◌, ◌++◌, Memᴰ}
 use lib.ListN.{length}
-use Rattle.table.specs.Sum.{sum_to, sum_over}
+use Rattle.table.specs.Sum.{sum_to, sum_over, greatest_to}
 
 pub sum_to_cong : (f g : ℕ → ℕ) (k : ℕ) → ((i : ℕ) → i < k → f i ≡ g i) → sum_to f k ≡ sum_to g k
 unfolding sum_to
@@ -50,6 +50,21 @@ sum_to_part f k (suc l) p =
     go : (k ≤ l → sum_to f k ≤ sum_to f l) → Dec (k ≡ suc l) → sum_to f k ≤ sum_to f l + f l
     go ih (yes e) = rw e (omega arith)
     go ih (no d) = omega (arith, ih (omega (arith, d)))
+
+pub greatest_to_cong : (f g : ℕ → ℕ) (k : ℕ) → ((i : ℕ) → i < k → f i ≡ g i) → greatest_to f k ≡ greatest_to g k
+unfolding greatest_to
+greatest_to_cong f g zero h = refl
+greatest_to_cong f g (suc k) h = omega (arith, greatest_to_cong f g k (λ i p. h i (omega arith)), h k (omega arith))
+
+pub sum_over_cong : (f g : ℕ → ℕ) (l : List ℕ) → ((x : ℕ) → Memᴰ x l → f x ≡ g x) → sum_over f l ≡ sum_over g l
+unfolding sum_over
+sum_over_cong f g [] h = refl
+sum_over_cong f g (x ∷ l) h = omega (arith, sum_over_cong f g l (λ y m. h y (Memᴰ.tail m)), h x (Memᴰ.head refl))
+
+pub sum_over_zero : (f : ℕ → ℕ) (l : List ℕ) → ((x : ℕ) → Memᴰ x l → f x ≡ 0) → sum_over f l ≡ 0
+unfolding sum_over
+sum_over_zero f [] h = refl
+sum_over_zero f (x ∷ l) h = omega (arith, sum_over_zero f l (λ y m. h y (Memᴰ.tail m)), h x (Memᴰ.head refl))
 
 pub sum_over_append : (f : ℕ → ℕ) (l r : List ℕ) → sum_over f (l ++ r) ≡ sum_over f l + sum_over f r
 unfolding sum_over

@@ -1,28 +1,21 @@
 -- Tests and kinds: what the two ways through `||` and `&&` say, that the test `is` is equality, what a choice by a test is, and how the kinds part.
-use mathlib.Core.Path.{◌≡◌, refl, sym}
-use Prim.Native.Nat.{ℕ, suc, ◌-◌, ◌<◌}
+use mathlib.Core.Path.{◌≡◌, refl, sym, ◌∙◌}
+use Prim.Native.Nat.{ℕ, suc, ◌-◌, ◌≤◌, ◌<◌}
 use mathlib.Core.Bool.{Bool, true, false, not, ◌&&◌, ◌||◌, cond}
 use native.Mathlib.Omega.{arith}
 use lib.Dec.{ltb}
 use lib.IntN.{sub_ℕ, pos, negsuc}
-use borrow.Author.Tests.{ltb-true, eqb-true, eq-eqb, not-false}
+use borrow.Author.Tests.{ltb-true, eqb-true, eq-eqb, ne_eqb, not-false}
 use Rattle.table.specs.Sum.{pick}
 use Rattle.table.specs.Format.{kind_of, code_of, is}
 use Rattle.table.specs.declared.kinds.Kind.{Kind}
 use Rattle.table.specs.declared.kinds.Kind.TheVariants.{End as end, Work as work, Alloc as alloc, Free as free, Fork as fork, Join as join, Unknown as unknown}
 use Rattle.table.specs.Checks.{differ, negative}
+pub use Rattle.std.proofs.lemmas.Bool.{or_parts as or_neither, and_parts as and_both}
 
 -- from a contradiction between numbers, as `cc` finds one, anything
 pub no_way {ℓ} : {A : Type ℓ} → ◌≡◌ {A = ℕ} 0 1 → A
 no_way e = absurd (omega arith)
-
-pub or_neither : (s t : Bool) → (s || t) ≡ false → (s ≡ false) × (t ≡ false)
-or_neither true t e = (e, cc)
-or_neither false t e = (refl, e)
-
-pub and_both : (s t : Bool) → (s && t) ≡ true → (s ≡ true) × (t ≡ true)
-and_both true t e = (refl, e)
-and_both false t e = (e, cc)
 
 pub not_differ : (s t : Bool) → differ s t ≡ false → s ≡ t
 not_differ true t e = sym (not-false t e)
@@ -61,6 +54,16 @@ is_true j k e =
 pub same_is : (j k : Kind) → k ≡ j → is j k ≡ true
 unfolding is
 same_is j k e = eq-eqb (code_of j) (code_of k) cc
+
+pub other_is : (j k : Kind) → (k ≡ j → ⊥) → is j k ≡ false
+unfolding is
+other_is j k d =
+    ne_eqb (code_of j) (code_of k) (λ e. d (sym (kind_of_code_of k) ∙ rw (← e) (kind_of_code_of j)))
+
+-- an amount that a test lets through, or none
+pub pick_most : (q : Bool) (x : ℕ) → pick q x 0 ≤ x
+pick_most true x = omega arith
+pick_most false x = omega arith
 
 -- a choice of two amounts that are equal where the test holds
 pub pick_same : (j k : Kind) (x y : ℕ) → (k ≡ j → x ≡ y) → pick (is j k) x 0 ≡ pick (is j k) y 0

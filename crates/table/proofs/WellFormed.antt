@@ -24,7 +24,7 @@ use Rattle.table.proofs.Unjoined.{in_body, body_owner, body_action}
 
 -- ---- the head
 
-not_outside : (low high x : ℕ) → low ≤ x → x ≤ high → outside low high x ≡ false
+pub not_outside : (low high x : ℕ) → low ≤ x → x ≤ high → outside low high x ≡ false
 not_outside low high x h k = rw (le-ltb x low h) (le-ltb high x k)
 
 pub head_sized : (s : List ℕ) → HeadRules s ↔ Sized s

@@ -5,7 +5,7 @@ ghost use Rattle.table.specs.declared.kinds.Kind.TheVariants.{Alloc as alloc, Fr
 ghost use Rattle.table.specs.Sum.{Read};
 ghost use Rattle.table.specs.Code.Steps.{DoubleWord};
 
-use crate::kinds::{Kind, alloc_of, free_of};
+use crate::kinds::Kind;
 
 // The byte at a position.
 pub fn byte(s: &[u8], i: usize) -> u8
@@ -128,7 +128,7 @@ pub fn argument(table: &[u8], n: usize, a: usize) -> usize
 }
 
 // An action's code and argument.
-#[derive(Drop)]
+#[derive(Clone, Copy, PartialEq, Eq, Debug)]
 pub struct Action {
     pub code: u8,
     pub argument: usize,
@@ -146,13 +146,19 @@ impl Action {
     pub fn alloc(&self) -> u64
         ensures { result ≡ own_amount alloc (kind_of self.now.code) self.now.argument }
     {
-        alloc_of(self.code, self.argument)
+        match self.kind() {
+            Kind::Alloc => self.argument as u64,
+            _ => 0,
+        }
     }
 
     pub fn free(&self) -> u64
         ensures { result ≡ own_amount free (kind_of self.now.code) self.now.argument }
     {
-        free_of(self.code, self.argument)
+        match self.kind() {
+            Kind::Free => self.argument as u64,
+            _ => 0,
+        }
     }
 }
 

@@ -17,7 +17,7 @@ use Rattle.schedule.specs.Begin.{max_quota}
 use Rattle.schedule.specs.Memory.{limit}
 use Rattle.peaks.specs.Peak.{workers_peak}
 use Rattle.peaks.specs.Rests.{stretch_begins, drawn_at, drawn_before, stretch, covered, resting_peak, useful_limit}
-use Rattle.peaks.proofs.Opens.{greatest_same}
+use Rattle.table.proofs.Sums.{greatest_to_cong}
 use Rattle.peaks.proofs.Useful.{useful_rises}
 use Rattle.quota.specs.Quota.{least_quota, InRange}
 use Rattle.quota.proofs.Least.{least_exactly}
@@ -51,7 +51,7 @@ module _ (T : Table) (K L : ℕ) (k : InRange T K) (l : InRange T L) where
 
   pub stretch_same : stretch T K ≡ stretch T L
   unfolding stretch
-  stretch_same = greatest_same _ _ T.actions (λ a h. rw (before_same a (omega arith), drawn_same a h))
+  stretch_same = greatest_to_cong _ _ T.actions (λ a h. rw (before_same a (omega arith), drawn_same a h))
 
 -- the largest of all is in a range that has any
 pub top_in_range : (T : Table) (K : ℕ) → InRange T K → InRange T max_quota

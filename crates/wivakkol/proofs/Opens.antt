@@ -42,7 +42,9 @@ use Rattle.run_memory.specs.Runs.{rounds_run_in}
 use Rattle.wivakkol.specs.Lent.{lent_rounds, blank_memory}
 use Rattle.run_memory.specs.Stands.{truths, workers_from, workers_in, run_in, Stands}
 use Rattle.wivakkol.specs.Opened.{sound_in, blank_in, beside, opened_in, blanked_in, opened_as, lent_open}
-use Rattle.wivakkol.specs.Code.Standing.{standing_of, standing}
+use Rattle.wivakkol.specs.declared.standing.Standing.{Standing}
+use Rattle.wivakkol.specs.declared.standing.Standing.TheVariants.{Sound as sound_record, Blank, Neither}
+use Rattle.wivakkol.specs.Code.Standing.{standing_of, standing, is_sound}
 use Rattle.wivakkol.proofs.Begins.{too_many}
 
 -- ---- the record
@@ -241,95 +243,67 @@ module _ (s : List ℕ) (K : ℕ) (next status amounts : List ℕ) (k : Links) (
       (λ (h : p < 17). let e : min p 17 ≡ p = min-eq_left (omega arith) in rw e)
       (λ (h : p < 17 → ⊥). let l : 17 ≤ p = omega arith in rw (min-eq_right l, ne_eqb p 0 (λ e. omega (arith, e, l))))
 
-module _ (s : List ℕ) (M : Memory) {p : ℕ} {workers : List Worker} (h : p ≡ min (get_or M.settings 0 0) 17) (w : workers ≡ workers_in M) where
-  pub tests_sound : {r t : Bool}
-      → r ≡ sound_on s p (get_or M.settings 1 0) M.arrays.next M.arrays.status M.arrays.amounts (links_of M.arrays (moved_in M).totals) workers (get_or M.heads 2 0)
-      (get_or M.totals 0 0) (get_or M.totals 1 0) (get_or M.totals 2 0)
-      → t ≡ truths M.holds → t ≡ true → r ≡ sound_in s M
-  unfolding sound_in
-  tests_sound e f g =
-      let t : truths M.holds ≡ true = sym f ∙ g in
-      rw t (e ∙ rw (h, w) (sound_handed s (get_or M.settings 1 0) _ _ _ _ _ _ _ _ _ (get_or M.settings 0 0)))
-
-  pub tests_truths : {t : Bool} → t ≡ truths M.holds → t ≡ false → false ≡ sound_in s M
-  unfolding sound_in
-  tests_truths f g = rw (sym f ∙ g)
-
-  pub tests_blank : {r : Bool}
-      → r ≡ blank_on p (get_or M.settings 1 0) M.arrays.next M.arrays.status M.arrays.amounts (links_of M.arrays (moved_in M).totals) workers (get_or M.heads 2 0)
-      (get_or M.totals 0 0) (get_or M.totals 1 0) (get_or M.totals 2 0)
-      → r ≡ blank_in M
-  unfolding blank_in
-  tests_blank e = e ∙ rw (h, w) (blank_handed s (get_or M.settings 1 0) _ _ _ _ _ _ _ _ _ (get_or M.settings 0 0))
+-- what is found in the parts, and the workers' truth values
+module _ (s : List ℕ) (M : Memory) {p : ℕ} {workers : List Worker} (h : p ≡ min (get_or M.settings 0 0) 17) (w : workers ≡ workers_in M) {t : Bool} (f : t ≡ truths M.holds) where
+  pub tests_standing : {n : Standing}
+      → n ≡ standing_of
+      (t && sound_on s p (get_or M.settings 1 0) M.arrays.next M.arrays.status M.arrays.amounts (links_of M.arrays (moved_in M).totals) workers (get_or M.heads 2 0)
+      (get_or M.totals 0 0) (get_or M.totals 1 0) (get_or M.totals 2 0))
+      (blank_on p (get_or M.settings 1 0) M.arrays.next M.arrays.status M.arrays.amounts (links_of M.arrays (moved_in M).totals) workers (get_or M.heads 2 0)
+      (get_or M.totals 0 0) (get_or M.totals 1 0) (get_or M.totals 2 0))
+      → n ≡ standing s M
+  unfolding standing sound_in blank_in
+  tests_standing e =
+      let p_sound = sound_handed s (get_or M.settings 1 0) M.arrays.next M.arrays.status M.arrays.amounts (links_of M.arrays (moved_in M).totals) (workers_in M) (get_or M.heads 2 0)
+      (get_or M.totals 0 0) (get_or M.totals 1 0) (get_or M.totals 2 0) (get_or M.settings 0 0) in
+      let p_blank = blank_handed s (get_or M.settings 1 0) M.arrays.next M.arrays.status M.arrays.amounts (links_of M.arrays (moved_in M).totals) (workers_in M) (get_or M.heads 2 0)
+      (get_or M.totals 0 0) (get_or M.totals 1 0) (get_or M.totals 2 0) (get_or M.settings 0 0) in
+      e ∙ rw (f, h, w) (λ i. standing_of (truths M.holds && p_sound i) (p_blank i))
 
 -- ---- the call's three answers
 
-pub seen_as : (T : Table) {x y : Bool} {parents : List ℕ} → parents ≡ parents_if x T → x ≡ y → parents ≡ parents_if y T
-seen_as T e d = e ∙ ap (λ (b : Bool). parents_if b T) d
+pub none_seen : (T : Table) (n : Standing) {parents : List ℕ} → parents ≡ parents_if (is_sound n) T → is_sound n ≡ false → parents ≡ replicate 1024 0
+none_seen T n e h = e ∙ ap (λ (b : Bool). parents_if b T) h
 
-pub none_seen : (T : Table) {n : ℕ} {parents : List ℕ} → parents ≡ parents_if (eqb n 1) T → (n ≡ 1 → ⊥) → parents ≡ replicate 1024 0
-none_seen T {n} e h = seen_as T e (ne_eqb n 1 h)
-
-module _ (s : List ℕ) (M : Memory) {x : Bool} (e : x ≡ sound_in s M) where
-  pub finds_sound : x ≡ true → 1 ≡ standing s M
+module _ (s : List ℕ) (M : Memory) {n : Standing} (e : n ≡ standing s M) where
+  sound_found : n ≡ sound_record → sound_in s M ≡ true
   unfolding standing
-  finds_sound h = rw (sym e ∙ h)
-
-  pub finds_blank : x ≡ false → {y : Bool} → y ≡ blank_in M → y ≡ true → 2 ≡ standing s M
-  unfolding standing
-  finds_blank h f g = rw (sym e ∙ h, sym f ∙ g)
-
-  pub finds_neither : x ≡ false → {y : Bool} → y ≡ blank_in M → y ≡ false → 0 ≡ standing s M
-  unfolding standing
-  finds_neither h f g = rw (sym e ∙ h, sym f ∙ g)
-
-module _ (s : List ℕ) (M : Memory) {n : ℕ} (e : n ≡ standing s M) where
-  is_sound : n ≡ 1 → sound_in s M ≡ true
-  unfolding standing
-  is_sound h = go (sound_in s M) (blank_in M) (sym e ∙ h)
+  sound_found h = go (sound_in s M) (blank_in M) (sym e ∙ h)
     where
-      go : (a b : Bool) → standing_of a b ≡ 1 → a ≡ true
+      go : (a b : Bool) → standing_of a b ≡ sound_record → a ≡ true
       go true b h = refl
-      go false true h = absurd (omega (arith, h))
-      go false false h = absurd (omega (arith, h))
+      go false true h = cc
+      go false false h = cc
 
-  not_sound : (n ≡ 1 → ⊥) → sound_in s M ≡ false
+  blank_found : n ≡ Blank → (sound_in s M ≡ false) × (blank_in M ≡ true)
   unfolding standing
-  not_sound h = go (sound_in s M) (blank_in M) (λ q. h (e ∙ q))
+  blank_found h = go (sound_in s M) (blank_in M) (sym e ∙ h)
     where
-      go : (a b : Bool) → (standing_of a b ≡ 1 → ⊥) → a ≡ false
-      go true b h = absurd (h refl)
-      go false b h = refl
+      go : (a b : Bool) → standing_of a b ≡ Blank → (a ≡ false) × (b ≡ true)
+      go true b h = (cc, cc)
+      go false true h = (refl, refl)
+      go false false h = (cc, cc)
 
-  is_blank_lem : n ≡ 2 → blank_in M ≡ true
+  neither_found : n ≡ Neither → (sound_in s M ≡ false) × (blank_in M ≡ false)
   unfolding standing
-  is_blank_lem h = go (sound_in s M) (blank_in M) (sym e ∙ h)
+  neither_found h = go (sound_in s M) (blank_in M) (sym e ∙ h)
     where
-      go : (a b : Bool) → standing_of a b ≡ 2 → b ≡ true
-      go true b h = absurd (omega (arith, h))
-      go false true h = refl
-      go false false h = absurd (omega (arith, h))
+      go : (a b : Bool) → standing_of a b ≡ Neither → (a ≡ false) × (b ≡ false)
+      go true b h = (cc, cc)
+      go false true h = (cc, cc)
+      go false false h = (refl, refl)
 
-  not_blank : (n ≡ 1 → ⊥) → (n ≡ 2 → ⊥) → blank_in M ≡ false
-  unfolding standing
-  not_blank h k = go (sound_in s M) (blank_in M) (λ q. h (e ∙ q)) (λ q. k (e ∙ q))
-    where
-      go : (a b : Bool) → (standing_of a b ≡ 1 → ⊥) → (standing_of a b ≡ 2 → ⊥) → b ≡ false
-      go true b h k = absurd (h refl)
-      go false true h k = absurd (k refl)
-      go false false h k = refl
-
-  pub opens_sound : n ≡ 1 → {parents : List ℕ} → parents ≡ parents_if (eqb n 1) (table_of s) → {k : Links}
+  pub opens_sound : n ≡ sound_record → {parents : List ℕ} → parents ≡ parents_if (is_sound n) (table_of s) → {k : Links}
       → k ≡ filled_from 1024 M.arrays.status M.arrays.right (get_or M.heads 0 0) no_thread no_links → answer 0 (0 ∷ []) (beside parents k M) ≡ lent_open s M
   unfolding lent_open
   opens_sound h {parents} p {k} q =
-      let p' : parents ≡ parents_in (table_of s) = p ∙ ap (λ (b : Bool). parents_if b (table_of s)) (eq-eqb n 1 h) in
-      rw (is_sound h) (λ i. answer 0 (0 ∷ []) (beside (p' i) (q i) M))
+      let p' : parents ≡ parents_in (table_of s) = p ∙ ap (λ (m : Standing). parents_if (is_sound m) (table_of s)) h in
+      rw (sound_found h) (λ i. answer 0 (0 ∷ []) (beside (p' i) (q i) M))
 
-  pub opens_blank : (n ≡ 1 → ⊥) → n ≡ 2 → answer 0 (0 ∷ []) (blanked_in M) ≡ lent_open s M
+  pub opens_blank : n ≡ Blank → answer 0 (0 ∷ []) (blanked_in M) ≡ lent_open s M
   unfolding lent_open
-  opens_blank h k = rw (not_sound h, is_blank_lem k)
+  opens_blank h = rw ((blank_found h).0, (blank_found h).1)
 
-  pub opens_refused : (n ≡ 1 → ⊥) → (n ≡ 2 → ⊥) → answer 32 (0 ∷ []) M ≡ lent_open s M
+  pub opens_refused : n ≡ Neither → answer 32 (0 ∷ []) M ≡ lent_open s M
   unfolding lent_open
-  opens_refused h k = rw (not_sound h, not_blank h k)
+  opens_refused h = rw ((neither_found h).0, (neither_found h).1)

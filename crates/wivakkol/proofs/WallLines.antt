@@ -24,39 +24,41 @@ use Rattle.chart.proofs.Records.{wall_width, wall_newline, wall_read, line_fille
 use Rattle.run_memory.specs.Memory.{Memory, moved_in}
 use Rattle.run_memory.specs.Stands.{workers_in, run_in, Stands}
 use Rattle.wivakkol.specs.Opened.{sound_in, blank_in, line_fault, figures_in, line_after}
+use Rattle.wivakkol.specs.declared.standing.Standing.{Standing}
+use Rattle.wivakkol.specs.declared.standing.Standing.TheVariants.{Neither}
 use Rattle.wivakkol.specs.Code.Standing.{standing_of, standing}
 use Rattle.wivakkol.proofs.Opens.{sound_in_lem, no_workers, blank_passed, stands_worked, stands_unsound}
 
 -- ---- the checks, as the code asks them
 
-module _ (s : List ℕ) (M : Memory) {n : ℕ} (e : n ≡ standing s M) where
-  neither : n ≡ 0 → (not (sound_in s M) && not (blank_in M)) ≡ true
+module _ (s : List ℕ) (M : Memory) {n : Standing} (e : n ≡ standing s M) where
+  neither : n ≡ Neither → (not (sound_in s M) && not (blank_in M)) ≡ true
   unfolding standing
   neither h = go (sound_in s M) (blank_in M) (sym e ∙ h)
     where
-      go : (a b : Bool) → standing_of a b ≡ 0 → (not a && not b) ≡ true
-      go true b h = absurd (omega (arith, h))
-      go false true h = absurd (omega (arith, h))
+      go : (a b : Bool) → standing_of a b ≡ Neither → (not a && not b) ≡ true
+      go true b h = cc
+      go false true h = cc
       go false false h = refl
 
-  either : (n ≡ 0 → ⊥) → (not (sound_in s M) && not (blank_in M)) ≡ false
+  either : (n ≡ Neither → ⊥) → (not (sound_in s M) && not (blank_in M)) ≡ false
   unfolding standing
   either h = go (sound_in s M) (blank_in M) (λ q. h (e ∙ q))
     where
-      go : (a b : Bool) → (standing_of a b ≡ 0 → ⊥) → (not a && not b) ≡ false
+      go : (a b : Bool) → (standing_of a b ≡ Neither → ⊥) → (not a && not b) ≡ false
       go true b h = refl
       go false true h = refl
       go false false h = absurd (h refl)
 
-  pub line_refused : n ≡ 0 → 32 ≡ line_fault s M
+  pub line_refused : n ≡ Neither → 32 ≡ line_fault s M
   unfolding line_fault
   line_refused h = rw (neither h)
 
-  pub line_long : (n ≡ 0 → ⊥) → most_turns < get_or M.totals 2 0 → 43 ≡ line_fault s M
+  pub line_long : (n ≡ Neither → ⊥) → most_turns < get_or M.totals 2 0 → 43 ≡ line_fault s M
   unfolding line_fault
   line_long h t = rw (either h, lt-ltb most_turns (get_or M.totals 2 0) t)
 
-  pub line_passes : (n ≡ 0 → ⊥) → get_or M.totals 2 0 ≤ most_turns → 0 ≡ line_fault s M
+  pub line_passes : (n ≡ Neither → ⊥) → get_or M.totals 2 0 ≤ most_turns → 0 ≡ line_fault s M
   unfolding line_fault
   line_passes h t = rw (either h, le-ltb most_turns (get_or M.totals 2 0) t)
 

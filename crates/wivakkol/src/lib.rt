@@ -17,6 +17,7 @@ mod line;
 pub mod open;
 mod preview;
 pub mod runs;
+pub mod standing;
 mod useful;
 
 pub use limit::wivakkol_most_on;

@@ -4,7 +4,8 @@ ghost use Rattle.array_machine.specs.Arrays.{arrays};
 ghost use Rattle.run_memory.specs.Memory.{memory};
 ghost use Rattle.wivakkol.specs.Opened.{line_fault, line_after};
 
-use crate::open::{NEITHER, standing_lent};
+use crate::open::standing_lent;
+use crate::standing::Standing;
 use chart::{MOST_TURNS, put_line};
 use run_memory::lent::{workers, workers_at};
 
@@ -44,7 +45,7 @@ pub fn wivakkol_chart_on(
         rises, falls, forks, seen, list,
     );
     *seen = [0; 1024];
-    if found == NEITHER {
+    if found == Standing::Neither {
         return 32;
     }
     if MOST_TURNS < totals[2] {

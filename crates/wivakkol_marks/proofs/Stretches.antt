@@ -1,13 +1,13 @@
 -- The stretches of a block, one for each mark: a copy into the i-th leaves the others as they were, and one out of it is that stretch.
 use mathlib.Core.Path.{◌≡◌, refl, ap, ◌∙◌}
 use mathlib.Core.Logic.{◌⊎◌, inl, inr, ◌≢◌}
-use Prim.Native.Nat.{ℕ, zero, suc, ◌+◌, ◌*◌, ◌≤◌, ◌<◌}
+use Prim.Native.Nat.{ℕ, zero, suc, ◌+◌, ◌-◌, ◌*◌, ◌≤◌, ◌<◌}
 use native.Mathlib.Nat.{mul-suc, mul-le-mul_left}
 use native.Mathlib.Omega.{arith}
 use native.Mathlib.Decide.{dec_lt}
 use mathlib.Core.List.{List, ◌∷◌}
 use mathlib.Core.Bool.{Bool, true, false}
-use lib.ListN.{length, get_or, set, drop}
+use lib.ListN.{length, get_or, set, take, drop}
 use lib.Seq.{paste, take_all}
 use lib.Dec.{eqb}
 use borrow.Author.Tests.{eqb-true, eqb-false, eq-eqb, ne_eqb}
@@ -17,7 +17,8 @@ use Rattle.run_memory.specs.Memory.{Memory}
 use Rattle.run_memory.specs.Blocks.{part, Bytes, Words, Numbers, Sums, gathered, memory_of}
 use Rattle.run_memory.specs.Places.{worker_bytes, worker_words, worker_numbers}
 use Rattle.run_memory.specs.Stands.{workers_from}
-use Rattle.run_memory.proofs.Copied.{paste_whole, part_paste, part_apart}
+use Rattle.run_memory.proofs.Copied.{part_paste, part_apart}
+use Rattle.std.specs.List.{between}
 use Rattle.wivakkol_marks.specs.LentMarks.{memory_at, row_from, mended}
 
 -- a stretch of n ends where the next begins, or before
@@ -25,9 +26,9 @@ pub stretch_end : (n : ℕ) {i j : ℕ} → i < j → n * i + n ≤ n * j
 stretch_end n {i} {j} h = rw (← (mul-suc n i)) (mul-le-mul_left n h)
 
 -- out of the i-th
-pub stretch_out : (n i : ℕ) (d l : List ℕ) → length d ≡ n → paste d 0 (drop (n * i) l) n ≡ part (n * i) n l
+pub stretch_out : (n i : ℕ) (l : List ℕ) → between (n * i) (n * i + n) l ≡ part (n * i) n l
 unfolding part
-stretch_out n i d l z = paste_whole d (drop (n * i) l) n z
+stretch_out n i l = let e : n * i + n - n * i ≡ n = omega arith in ap (λ (k : ℕ). take k (drop (n * i) l)) e
 
 -- into the i-th of eight
 module _ (n i : ℕ) (l x : List ℕ) (h : i < 8) (z : n * 8 ≤ length l) (y : length x ≡ n) where
@@ -110,8 +111,8 @@ module _ (i : ℕ) (h : i < 8) (bytes words numbers sums b w n s : List ℕ) (yb
       row_set (memory_at b w n s) after (memory_of bytes words numbers sums) 0 8 i
       (λ j. at j ∙ ap (λ (m : ℕ). pick (eqb j m) (memory_of bytes words numbers sums) (memory_at b w n s j)) z)
 
-  pub stores : {b' w' n' s' : List ℕ} → b' ≡ paste b (1040 * i) (drop 0 bytes) 1040 → w' ≡ paste w (6163 * i) (drop 0 words) 6163 → n' ≡ paste n (18 * i) (drop 0 numbers) 18
-      → s' ≡ paste s (1027 * i) (drop 0 sums) 1027 → row_from (memory_at b' w' n' s') 0 8 ≡ set (row_from (memory_at b w n s) 0 8) i (memory_of bytes words numbers sums)
+  pub stores : {b' w' n' s' : List ℕ} → b' ≡ paste b (1040 * i) bytes 1040 → w' ≡ paste w (6163 * i) words 6163 → n' ≡ paste n (18 * i) numbers 18
+      → s' ≡ paste s (1027 * i) sums 1027 → row_from (memory_at b' w' n' s') 0 8 ≡ set (row_from (memory_at b w n s) 0 8) i (memory_of bytes words numbers sums)
   stores eb ew en es = (λ k. row_from (memory_at (eb k) (ew k) (en k) (es k)) 0 8) ∙ stored_in
 
 pub loads : (i : ℕ) (b w n s : List ℕ) {b' w' n' s' : List ℕ} → b' ≡ part (1040 * i) 1040 b → w' ≡ part (6163 * i) 6163 w → n' ≡ part (18 * i) 18 n → s' ≡ part (1027 * i) 1027 s → {M : Memory}

@@ -1,51 +1,9 @@
 // The blocks of a run and those of the marks: what stands in mark i is the i-th stretch of each.
-ghost use Rattle.std.specs.Prelude.{◌≡◌, ◌+◌, ◌*◌, ◌≤◌, ◌<◌, length, drop, set};
-ghost use Rattle.std.proofs.Math.Seq.{paste};
+ghost use Rattle.std.specs.Prelude.{◌≡◌, ◌<◌, length, set};
 ghost use Rattle.run_memory.specs.Blocks.{memory_of};
 ghost use Rattle.wivakkol_marks.specs.LentMarks.{memory_at, row_from, mended};
 
 use run_memory::copies::{copy_workers, workers_out};
-
-// n numbers copied, of each width, from a place of one part to a place of another.
-fn copy_bytes(from: &[u8], start: usize, to: &mut [u8], at: usize, n: usize)
-    requires n_in_bounds { start + n ≤ length from.now }
-    requires n_in_bounds_2 { at + n ≤ length to.old }
-    ensures { to.new ≡ paste to.old at (drop start from.now) n }
-{
-    for i in 0..n {
-        to[at + i] = from[start + i];
-    }
-}
-
-fn copy_words(from: &[u16], start: usize, to: &mut [u16], at: usize, n: usize)
-    requires n_in_bounds { start + n ≤ length from.now }
-    requires n_in_bounds_2 { at + n ≤ length to.old }
-    ensures { to.new ≡ paste to.old at (drop start from.now) n }
-{
-    for i in 0..n {
-        to[at + i] = from[start + i];
-    }
-}
-
-fn copy_numbers(from: &[u32], start: usize, to: &mut [u32], at: usize, n: usize)
-    requires n_in_bounds { start + n ≤ length from.now }
-    requires n_in_bounds_2 { at + n ≤ length to.old }
-    ensures { to.new ≡ paste to.old at (drop start from.now) n }
-{
-    for i in 0..n {
-        to[at + i] = from[start + i];
-    }
-}
-
-fn copy_sums(from: &[u64], start: usize, to: &mut [u64], at: usize, n: usize)
-    requires n_in_bounds { start + n ≤ length from.now }
-    requires n_in_bounds_2 { at + n ≤ length to.old }
-    ensures { to.new ≡ paste to.old at (drop start from.now) n }
-{
-    for i in 0..n {
-        to[at + i] = from[start + i];
-    }
-}
 
 // The workers' records written as a call writes them.
 fn mend(
@@ -77,10 +35,10 @@ pub(crate) fn load(
     ensures { memory_of bytes.new words.new numbers.new sums.new
         ≡ mended (memory_at markbytes.now markwords.now marknumbers.now marksums.now i) }
 {
-    copy_bytes(markbytes, 1040 * i, bytes, 0, 1040);
-    copy_words(markwords, 6163 * i, words, 0, 6163);
-    copy_numbers(marknumbers, 18 * i, numbers, 0, 18);
-    copy_sums(marksums, 1027 * i, sums, 0, 1027);
+    bytes.copy_from_slice(&markbytes[1040 * i..1040 * i + 1040]);
+    words.copy_from_slice(&markwords[6163 * i..6163 * i + 6163]);
+    numbers.copy_from_slice(&marknumbers[18 * i..18 * i + 18]);
+    sums.copy_from_slice(&marksums[1027 * i..1027 * i + 1027]);
     mend(bytes, words, numbers, &*sums);
 }
 
@@ -109,8 +67,8 @@ pub(crate) fn store(
         ≡ set (row_from (memory_at markbytes.old markwords.old marknumbers.old marksums.old) 0 8) i
         (memory_of bytes.now words.now numbers.now sums.now) }
 {
-    copy_bytes(bytes, 0, markbytes, 1040 * i, 1040);
-    copy_words(words, 0, markwords, 6163 * i, 6163);
-    copy_numbers(numbers, 0, marknumbers, 18 * i, 18);
-    copy_sums(sums, 0, marksums, 1027 * i, 1027);
+    markbytes[1040 * i..1040 * i + 1040].copy_from_slice(bytes);
+    markwords[6163 * i..6163 * i + 6163].copy_from_slice(words);
+    marknumbers[18 * i..18 * i + 18].copy_from_slice(numbers);
+    marksums[1027 * i..1027 * i + 1027].copy_from_slice(sums);
 }

@@ -4,7 +4,7 @@
 
 ghost use Rattle.std.specs.Prelude.{◌≡◌, not, ◌||◌, ◌<◌, length, replicate};
 ghost use Rattle.run_memory.specs.Blocks.{memory_of};
-ghost use Rattle.wivakkol_marks.specs.LentMarks.{marks_of, is_set_in, mark_in, fit_in, fit_marks, fit_marked, setting, lent_mark, going, lent_back, Cleared};
+ghost use Rattle.wivakkol_marks.specs.LentMarks.{number_in, marks_of, is_set_in, mark_in, fit_in, fit_marks, fit_marked, setting, lent_mark, going, lent_back, Cleared};
 
 use crate::copies::{load, note, store};
 use crate::standing::{fit, reopen};
@@ -249,9 +249,8 @@ fn set_mark(
     forks: &mut [u16; 1024],
     seen: &mut [u16; 1024],
     list: &mut [u16; 1024],
-) -> u32
-    ensures marksums_after { setting result (marks_of set.new markbytes.new markwords.new marknumbers.new marksums.new) ≡ lent_mark table.now i (memory_of bytes.now words.now numbers.now sums.now) (marks_of set.old markbytes.old markwords.old marknumbers.old marksums.old) }
-    ensures set_len { result ≡ 0 → length set.old ≡ 8 }
+) -> Result<(), u32>
+    ensures { setting (number_in result) (marks_of set.new markbytes.new markwords.new marknumbers.new marksums.new) ≡ lent_mark table.now i (memory_of bytes.now words.now numbers.now sums.now) (marks_of set.old markbytes.old markwords.old marknumbers.old marksums.old) }
 {
     let fits = fit_marked(
         table,
@@ -280,10 +279,10 @@ fn set_mark(
         list,
     );
     if !fits {
-        return UNSOUND;
+        return Err(UNSOUND);
     }
     if LAST_MARK < i {
-        return NO_MARK;
+        return Err(NO_MARK);
     }
     let at = i as usize;
     store(
@@ -298,7 +297,7 @@ fn set_mark(
         marksums,
     );
     note(set, at);
-    0
+    Ok(())
 }
 
 // Goes back to mark i: 32, 45, 46, or the run that it keeps, opened.
@@ -328,8 +327,8 @@ fn go_back(
     forks: &mut [u16; 1024],
     seen: &mut [u16; 1024],
     list: &mut [u16; 1024],
-) -> u32
-    ensures { going result (memory_of bytes.new words.new numbers.new sums.new) ≡ lent_back table.now i (memory_of bytes.old words.old numbers.old sums.old) (marks_of set.now markbytes.now markwords.now marknumbers.now marksums.now) }
+) -> Result<(), u32>
+    ensures { going (number_in result) (memory_of bytes.new words.new numbers.new sums.new) ≡ lent_back table.now i (memory_of bytes.old words.old numbers.old sums.old) (marks_of set.now markbytes.now markwords.now marknumbers.now marksums.now) }
 {
     let fits = fit_marked(
         table,
@@ -358,14 +357,14 @@ fn go_back(
         list,
     );
     if !fits {
-        return UNSOUND;
+        return Err(UNSOUND);
     }
     if LAST_MARK < i {
-        return NO_MARK;
+        return Err(NO_MARK);
     }
     let at = i as usize;
     if set[at] == 0 {
-        return NOT_SET;
+        return Err(NOT_SET);
     }
     load(
         at,
@@ -382,7 +381,17 @@ fn go_back(
         table, &*bytes, words, &*numbers, &*sums, next, status, amounts, left, right, rises, falls,
         forks, seen, list,
     );
-    0
+    Ok(())
+}
+
+// The number that C is answered: of a refusal, or 0.
+fn number_of(answer: Result<(), u32>) -> u32
+    ensures { result ≡ number_in answer }
+{
+    match answer {
+        Ok(()) => 0,
+        Err(number) => number,
+    }
 }
 
 // Sets mark i to the run as it is, or gives the check that refuses; the marks are then as they were. The working memory is left cleared.
@@ -417,7 +426,7 @@ pub fn wivakkol_mark_on(
     ensures cleared { Cleared sparebytes.new sparewords.new sparenumbers.new sparesums.new next.new status.new amounts.new left.new right.new rises.new falls.new forks.new seen.new list.new }
     ensures set_len { result ≡ 0 → length set.old ≡ 8 }
 {
-    let number = set_mark(
+    let marked = set_mark(
         table,
         i,
         bytes,
@@ -460,7 +469,7 @@ pub fn wivakkol_mark_on(
         seen,
         list,
     );
-    number
+    number_of(marked)
 }
 
 // Goes back to mark i, and opens the run that it keeps; or gives the check that refuses, and the run is then as it was. The working memory is left cleared.
@@ -494,7 +503,7 @@ pub fn wivakkol_back_on(
     ensures sums_after { going result (memory_of bytes.new words.new numbers.new sums.new) ≡ lent_back table.now i (memory_of bytes.old words.old numbers.old sums.old) (marks_of set.now markbytes.now markwords.now marknumbers.now marksums.now) }
     ensures cleared { Cleared sparebytes.new sparewords.new sparenumbers.new sparesums.new next.new status.new amounts.new left.new right.new rises.new falls.new forks.new seen.new list.new }
 {
-    let number = go_back(
+    let gone = go_back(
         table,
         i,
         bytes,
@@ -537,7 +546,7 @@ pub fn wivakkol_back_on(
         seen,
         list,
     );
-    number
+    number_of(gone)
 }
 
 // Clears the marks: none is set.

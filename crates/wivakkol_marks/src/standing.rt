@@ -1,41 +1,31 @@
 // Check 32 on the blocks of a run, as opening it tests them, and what an opening fills.
-ghost use Rattle.std.specs.Prelude.{◌≡◌, eqb, replicate};
+ghost use Rattle.std.specs.Prelude.{◌≡◌, replicate};
 ghost use Rattle.table.specs.Format.{table_of};
 ghost use Rattle.soundness.specs.Tested.{parents_if};
 ghost use Rattle.run_memory.specs.Stands.{truths};
 ghost use Rattle.run_memory.specs.Blocks.{bytes_in, words_in, memory_of};
 ghost use Rattle.run_memory.specs.Places.{headed, laid_row};
-ghost use Rattle.wivakkol.specs.Opened.{sound_in, blank_in, lent_open};
-ghost use Rattle.wivakkol.specs.Code.Standing.{standing};
+ghost use Rattle.wivakkol.specs.Opened.{lent_open};
+ghost use Rattle.wivakkol.specs.Code.Standing.{standing, is_sound};
 ghost use Rattle.wivakkol_marks.specs.LentMarks.{fit_in};
 ghost use Rattle.wivakkol_marks.specs.Code.LaidOut.{LaidOut};
 
 use links::fill_actives;
 use run_memory::copies::{amounts_out, copy_row, row_out, statuses_out, workers_out};
-use run_memory::lent::workers;
+use run_memory::lent::{truths_right, workers};
 use run_memory::places::{
     BUSY, FIRST, HELD, HIGHEST, LEFT, LEFTMOST, NEXT, OVER, PARENTS, QUOTA, RIGHT, TURNS, UNDER,
     WORKERS, head_at, put_head, setting_at, total_at,
 };
-use soundness::{blank_in, test_in};
-
-// What stands in the blocks: a sound record, the blank one, or neither.
-const SOUND: u8 = 1;
-
-const BLANK: u8 = 2;
-
-const NEITHER: u8 = 0;
+use wivakkol::standing::{Standing, standing_of};
 
 // Every worker's truth value is 0 or 1.
-fn truths_right(bytes: &[u8; 1040]) -> bool
+fn written(bytes: &[u8; 1040]) -> bool
     ensures { result ≡ truths (bytes_in bytes.now).holds }
 {
-    for w in 0..16 {
-        if 1 < bytes[1024 + w] {
-            return false;
-        }
-    }
-    true
+    let mut holds = [0; 16];
+    holds.copy_from_slice(&bytes[1024..]);
+    truths_right(&holds)
 }
 
 // The parts that are tested as arrays.
@@ -58,91 +48,6 @@ fn lay_out(
     amounts_out(sums, amounts);
 }
 
-// Whether the record that stands in the blocks is sound. Each thread's parent is then in `seen`, else 0; the other working memory is left cleared.
-fn sound_on(
-    table: &[u8],
-    bytes: &[u8; 1040],
-    words: &[u16; 6163],
-    numbers: &[u32; 18],
-    sums: &[u64; 1027],
-    next: &[u16; 1024],
-    status: &[u8; 1024],
-    amounts: &[u64; 1024],
-    left: &[u16; 1024],
-    right: &[u16; 1024],
-    rises: &mut [u64; 1024],
-    falls: &mut [u64; 1024],
-    forks: &mut [u16; 1024],
-    seen: &mut [u16; 1024],
-    list: &mut [u16; 1024],
-) -> bool
-    requires { LaidOut bytes.now words.now sums.now next.now status.now amounts.now left.now right.now }
-    ensures value { result ≡ sound_in table.now (memory_of bytes.now words.now numbers.now sums.now) }
-    ensures seen_after { seen.new ≡ parents_if result (table_of table.now) }
-    ensures forks_after { (forks.new ≡ replicate 1024 0) × (list.new ≡ replicate 1024 0) }
-{
-    let records = workers_out(bytes, words, numbers);
-    let passed = test_in(
-        table,
-        workers(setting_at(numbers, WORKERS)),
-        setting_at(numbers, QUOTA),
-        next,
-        status,
-        amounts,
-        left,
-        right,
-        head_at(words, LEFTMOST),
-        records,
-        head_at(words, BUSY),
-        total_at(sums, HELD),
-        total_at(sums, HIGHEST),
-        total_at(sums, TURNS),
-        rises,
-        falls,
-        forks,
-        seen,
-        list,
-    );
-    if truths_right(bytes) {
-        return passed;
-    }
-    *seen = [0; 1024];
-    false
-}
-
-// Whether the blank record stands in the blocks.
-fn blank_on(
-    bytes: &[u8; 1040],
-    words: &[u16; 6163],
-    numbers: &[u32; 18],
-    sums: &[u64; 1027],
-    next: &[u16; 1024],
-    status: &[u8; 1024],
-    amounts: &[u64; 1024],
-    left: &[u16; 1024],
-    right: &[u16; 1024],
-) -> bool
-    requires { LaidOut bytes.now words.now sums.now next.now status.now amounts.now left.now right.now }
-    ensures { result ≡ blank_in (memory_of bytes.now words.now numbers.now sums.now) }
-{
-    let records = workers_out(bytes, words, numbers);
-    blank_in(
-        workers(setting_at(numbers, WORKERS)),
-        setting_at(numbers, QUOTA),
-        next,
-        status,
-        amounts,
-        left,
-        right,
-        head_at(words, LEFTMOST),
-        records,
-        head_at(words, BUSY),
-        total_at(sums, HELD),
-        total_at(sums, HIGHEST),
-        total_at(sums, TURNS),
-    )
-}
-
 // What stands in the blocks. Each thread's parent is then in `seen` where that is a sound record, else 0; the parts that were tested are in their arrays.
 fn standing_in(
     table: &[u8],
@@ -160,27 +65,36 @@ fn standing_in(
     forks: &mut [u16; 1024],
     seen: &mut [u16; 1024],
     list: &mut [u16; 1024],
-) -> u8
+) -> Standing
     ensures value { result ≡ standing table.now (memory_of bytes.now words.now numbers.now sums.now) }
-    ensures seen_after { seen.new ≡ parents_if (eqb result 1) (table_of table.now) }
+    ensures seen_after { seen.new ≡ parents_if (is_sound result) (table_of table.now) }
     ensures forks_after { (forks.new ≡ replicate 1024 0) × (list.new ≡ replicate 1024 0) }
     ensures laid_out { LaidOut bytes.now words.now sums.now next.new status.new amounts.new left.new right.new }
 {
     lay_out(bytes, words, sums, next, status, amounts, left, right);
-    let sound = sound_on(
-        table, bytes, words, numbers, sums, &*next, &*status, &*amounts, &*left, &*right, rises,
-        falls, forks, seen, list,
-    );
-    if sound {
-        return SOUND;
-    }
-    let blank = blank_on(
-        bytes, words, numbers, sums, &*next, &*status, &*amounts, &*left, &*right,
-    );
-    if blank {
-        return BLANK;
-    }
-    NEITHER
+    let records = workers_out(bytes, words, numbers);
+    standing_of(
+        table,
+        workers(setting_at(numbers, WORKERS)),
+        setting_at(numbers, QUOTA),
+        &*next,
+        &*status,
+        &*amounts,
+        &*left,
+        &*right,
+        head_at(words, LEFTMOST),
+        written(bytes),
+        records,
+        head_at(words, BUSY),
+        total_at(sums, HELD),
+        total_at(sums, HIGHEST),
+        total_at(sums, TURNS),
+        rises,
+        falls,
+        forks,
+        seen,
+        list,
+    )
 }
 
 // 32 does not apply to what stands in the blocks.
@@ -207,7 +121,7 @@ pub(crate) fn fit(
         table, bytes, words, numbers, sums, next, status, amounts, left, right, rises, falls,
         forks, seen, list,
     );
-    found != NEITHER
+    found != Standing::Neither
 }
 
 // What stands beside a record: each thread's parent, and the second list.
@@ -251,13 +165,13 @@ pub(crate) fn reopen(
         table, bytes, &*words, numbers, sums, next, status, amounts, left, right, rises, falls,
         forks, seen, list,
     );
-    if found == SOUND {
-        let leftmost = head_at(&*words, LEFTMOST);
-        let first = fill_actives(&*status, &*right, leftmost, forks, list);
-        put_beside(words, &*seen, &*forks, &*list, first);
-        return;
-    }
-    if found == BLANK {
-        put_beside(words, &*seen, &*forks, &*list, 0);
+    match found {
+        Standing::Sound => {
+            let leftmost = head_at(&*words, LEFTMOST);
+            let first = fill_actives(&*status, &*right, leftmost, forks, list);
+            put_beside(words, &*seen, &*forks, &*list, first);
+        }
+        Standing::Blank => put_beside(words, &*seen, &*forks, &*list, 0),
+        Standing::Neither => {}
     }
 }

@@ -102,9 +102,3 @@ unpassed Idle = refl
 unpassed (Done t a) = refl
 unpassed (Quota t x) = refl
 unpassed (Wait t c) = refl
-
-pub reply_number : (x : Reply) → (reply_values x).number ≡ 0
-reply_number Idle = refl
-reply_number (Done t a) = refl
-reply_number (Quota t x) = refl
-reply_number (Wait t c) = refl

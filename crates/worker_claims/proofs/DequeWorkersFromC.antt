@@ -43,8 +43,9 @@ use Rattle.deque_claims.proofs.DequeSizes.{deque_call_shaped}
 use Rattle.workers.specs.Real.{Effect, nothing, effect_by, none, Real, no_memory, by_turn, by_work}
 use Rattle.deque_workers.specs.DequeWorkers.{DequeEvent, turn, work, DequeWorkers, starting_deques, deque_effect_in, after_deque_event, after_deque_events, DequeMayCome, DequeOrderly, deque_calls_of, deque_in_turn}
 use Rattle.deque_workers.proofs.DequeRealMemory.{DequeRealMemory, deque_real_memory, deque_action_there, deque_in_turn_orderly}
-use Rattle.worker_claims.proofs.ActionSays.{KindSays, ArgumentSays, kind_is, argument_is, kind_says, argument_says, said_in, thread_in, action_in, read_in, refused_silent, done_read, other_nothing, unpassed, reply_number}
+use Rattle.worker_claims.proofs.ActionSays.{KindSays, ArgumentSays, kind_is, argument_is, kind_says, argument_says, said_in, thread_in, action_in, read_in, refused_silent, done_read, other_nothing, unpassed}
 use Rattle.worker_claims.proofs.DequeWorkersByValue.{DefinedDequeWork}
+use Rattle.schedule.proofs.Runs.Values.{reply_number}
 
 -- ---- events
 

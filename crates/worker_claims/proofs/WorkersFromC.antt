@@ -48,8 +48,9 @@ use Rattle.workers.specs.Real.{Effect, nothing, effect_by, none, Real, no_memory
 use Rattle.workers.specs.Workers.{Event, turn, work, Workers, starting, effect_in, after_event, after_events, MayCome, Orderly, calls_of, in_turn}
 use Rattle.workers.proofs.RealMemory.{RealMemory, real_memory}
 use Rattle.workers.proofs.InTurn.{in_turn_orderly}
-use Rattle.worker_claims.proofs.ActionSays.{KindSays, ArgumentSays, kind_is, argument_is, kind_says, argument_says, said_in, thread_in, action_in, read_in, refused_silent, done_read, other_nothing, reply_number}
+use Rattle.worker_claims.proofs.ActionSays.{KindSays, ArgumentSays, kind_is, argument_is, kind_says, argument_says, said_in, thread_in, action_in, read_in, refused_silent, done_read, other_nothing}
 use Rattle.worker_claims.proofs.WorkersByValue.{DefinedWork}
+use Rattle.schedule.proofs.Runs.Values.{reply_number}
 
 -- ---- events
 

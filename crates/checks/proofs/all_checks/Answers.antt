@@ -11,6 +11,7 @@ use Rattle.table.specs.declared.Refusal.{Refusal}
 use Rattle.table.proofs.Trying.{or_else_last}
 use Rattle.table.proofs.Passes.{first_found_nothing, first_found_append, head_rules, content_rules, body_rules, nest_rules, fork_rules}
 use Rattle.checks.proofs.all_checks.Goals.{After-actions-m}
+use Rattle.std.proofs.lemmas.Result.{err_from_is_err_and}
 use Rattle.checks.proofs.all_checks.Goals as goal
 
 in_head : (s : List ℕ) {r : Refusal} → try_pass (head_pass s) ≡ Err r → Err r ≡ first_found (passes s)
@@ -44,23 +45,25 @@ module _ {s : List ℕ} {n m : ℕ} (h : Headed s n m) where
 
 -- the head has passed
 reached : (c : After-actions-m) → Headed c.args.table.now c.threads-n.result c.actions-m.result
-reached c = record { head = (head_rules _).0 (sym c.head-found.ensures ∙ c.in_default.is); threads = c.threads-n.ensures.value; actions = c.actions-m.ensures.value }
+reached c = record { head = (head_rules _).0 (sym c.head.ensures ∙ c.in_ok-head.was); threads = c.threads-n.ensures.value; actions = c.actions-m.ensures.value }
 
-pub returns-in-Err : goal.returns-in-Err
-returns-in-Err c =
-    c.in-Err.is ∙ in_head _ (sym c.head-found.ensures ∙ c.in-Err.is)
+pub returns-in_err-head : goal.returns-in_err-head
+returns-in_err-head c =
+    let p = err_from_is_err_and c.from_residual.result c.from_residual.ensures.1 in
+    rw (p.1, p.2) (in_head _ (sym c.head.ensures ∙ c.in_err-head.was))
 
-pub shape-found-requires : goal.shape-found-requires
-shape-found-requires c = reached (goal.at.shape-found-requires c).After-actions-m
+pub shape-requires : goal.shape-requires
+shape-requires c = reached (goal.at.shape-requires c).After-actions-m
 
-pub returns-in-Err-found : goal.returns-in-Err-found
-returns-in-Err-found c =
-    c.in-Err-found.is ∙ in_shape (reached (goal.at.returns-in-Err-found c).After-actions-m) (sym c.shape-found.ensures ∙ c.in-Err-found.is)
+pub returns-in_err-shape : goal.returns-in_err-shape
+returns-in_err-shape c =
+    let p = err_from_is_err_and c.from_residual-in_err-shape.result c.from_residual-in_err-shape.ensures.1 in
+    rw (p.1, p.2) (in_shape (reached (goal.at.returns-in_err-shape c).After-actions-m) (sym c.shape.ensures ∙ c.in_err-shape.was))
 
 pub balances-requires : goal.balances-requires
 balances-requires c =
-    nested (reached (goal.at.balances-requires c).After-actions-m) (sym c.shape-found.ensures ∙ c.in_default-found.is)
+    nested (reached (goal.at.balances-requires c).After-actions-m) (sym c.shape.ensures ∙ c.in_ok-shape.was)
 
 pub returns : goal.returns
 returns c =
-    c.balances.ensures ∙ in_balances (reached (goal.at.returns c).After-actions-m) (sym c.shape-found.ensures ∙ c.in_default-found.is)
+    c.balances.ensures ∙ in_balances (reached (goal.at.returns c).After-actions-m) (sym c.shape.ensures ∙ c.in_ok-shape.was)

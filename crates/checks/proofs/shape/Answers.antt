@@ -10,6 +10,7 @@ use Rattle.table.specs.Code.Steps.{Headed, Laid, Formed}
 use Rattle.table.specs.declared.Refusal.{Refusal}
 use Rattle.table.proofs.Trying.{or_else_nothing, or_else_assoc, or_else_last}
 use Rattle.table.proofs.Passes.{content_rules, body_rules}
+use Rattle.std.proofs.lemmas.Result.{err_from_is_err_and}
 use Rattle.checks.proofs.shape.Goals as goal
 
 abbrev contents_found : Table → Result ⊤ Refusal
@@ -24,14 +25,14 @@ unfolding first_found
 grouped T = rw (or_else_last, or_else_assoc)
 
 module _ {s : List ℕ} {n m : ℕ} (h : Headed s n m) where
-  in_contents : {r : Refusal} → contents_found (table_of s) ≡ Err r → contents_found (table_of s) ≡ first_found (shape_passes (table_of s))
+  in_contents : {r : Refusal} → contents_found (table_of s) ≡ Err r → Err r ≡ first_found (shape_passes (table_of s))
   in_contents e = rw (grouped (table_of s), e)
 
   module _ (e : contents_found (table_of s) ≡ Ok tt) where
     laid : Laid s n m
     laid = record { headed = h; contents = (content_rules (table_of s)).0 ((or_else_nothing _ _).0 e) }
 
-    in_first : {r : Refusal} → try_pass (first_pass (table_of s)) ≡ Err r → try_pass (first_pass (table_of s)) ≡ first_found (shape_passes (table_of s))
+    in_first : {r : Refusal} → try_pass (first_pass (table_of s)) ≡ Err r → Err r ≡ first_found (shape_passes (table_of s))
     in_first d = rw (grouped (table_of s), e, d)
 
     module _ (d : try_pass (first_pass (table_of s)) ≡ Ok tt) where
@@ -41,27 +42,28 @@ module _ {s : List ℕ} {n m : ℕ} (h : Headed s n m) where
       in_nesting : nesting_found (table_of s) ≡ first_found (shape_passes (table_of s))
       in_nesting = rw (grouped (table_of s), e, d)
 
-pub returns-in-Err : goal.returns-in-Err
-returns-in-Err c =
-    c.contents-found.ensures ∙ in_contents c.requires (sym c.contents-found.ensures ∙ c.in-Err.is)
+pub returns-in_err-contents : goal.returns-in_err-contents
+returns-in_err-contents c =
+    let p = err_from_is_err_and c.from_residual.result c.from_residual.ensures.1 in
+    let e = sym c.contents.ensures ∙ c.in_err-contents.was in
+    rw (p.1, p.2) (in_contents c.requires e)
 
-pub first_pass-found-requires : goal.first_pass-found-requires
-first_pass-found-requires c =
-    laid c.requires (sym c.contents-found.ensures ∙ c.in_default.is)
+pub first_pass-requires : goal.first_pass-requires
+first_pass-requires c = laid c.requires (sym c.contents.ensures ∙ c.in_ok-contents.was)
 
-pub returns-in-Err-found : goal.returns-in-Err-found
-returns-in-Err-found c =
-    c.first_pass-found.ensures
-    ∙ in_first c.requires (sym c.contents-found.ensures ∙ c.in_default.is)
-    (sym c.first_pass-found.ensures ∙ c.in-Err-found.is)
+pub returns-in_err-first_pass : goal.returns-in_err-first_pass
+returns-in_err-first_pass c =
+    let p = err_from_is_err_and c.from_residual-in_err-first_pass.result c.from_residual-in_err-first_pass.ensures.1 in
+    rw (p.1, p.2)
+    (in_first c.requires (sym c.contents.ensures ∙ c.in_ok-contents.was) (sym c.first_pass.ensures ∙ c.in_err-first_pass.was))
 
 pub nesting-requires : goal.nesting-requires
 nesting-requires c =
-    formed c.requires (sym c.contents-found.ensures ∙ c.in_default.is)
-    (sym c.first_pass-found.ensures ∙ c.in_default-found.is)
+    formed c.requires (sym c.contents.ensures ∙ c.in_ok-contents.was)
+    (sym c.first_pass.ensures ∙ c.in_ok-first_pass.was)
 
 pub returns : goal.returns
 returns c =
     c.nesting.ensures
-    ∙ in_nesting c.requires (sym c.contents-found.ensures ∙ c.in_default.is)
-    (sym c.first_pass-found.ensures ∙ c.in_default-found.is)
+    ∙ in_nesting c.requires (sym c.contents.ensures ∙ c.in_ok-contents.was)
+    (sym c.first_pass.ensures ∙ c.in_ok-first_pass.was)

@@ -8,30 +8,30 @@ use Rattle.deques.specs.DequeTurn.{unsound_deques}
 use Rattle.deques.proofs.DequeAnswers.{deque_turn_values_lem}
 use Rattle.dfdeques.proofs.DequesPassed.{deque_fails, deque_passes, deque_parents}
 use Rattle.dfdeques.proofs.DequeByValue.{turn_unsound, deque_inside, deque_stopped, deque_taken, told_small, turned_answers}
-use Rattle.dfdeques.proofs.deque_turn.Goals.{Else-not-tested}
+use Rattle.dfdeques.proofs.deque_turn.Goals.{In-Some}
 use Rattle.dfdeques.proofs.deque_turn.Goals as goal
 
 -- the record passed the test
-passed : (c : Else-not-tested) → unsound_deques c.args.run ≡ false
-passed c = deque_passes _ c.deque_test-tested.ensures c.if-not-tested.false
+passed : (c : In-Some) → unsound_deques c.args.run ≡ false
+passed c = deque_passes _ _ c.in-Some.ensures
 
-pub returns-then-not-tested : goal.returns-then-not-tested
-returns-then-not-tested c = let both = (turned_answers (c.refused.ensures ∙ turn_unsound _ _ _ (deque_fails _ c.deque_test-tested.ensures c.if-not-tested.true))) in record { value = both.0; answer_value = rw (← deque_turn_values_lem) both.1 }
+pub returns-in_default : goal.returns-in_default
+returns-in_default c = let both = (turned_answers (c.refused.ensures ∙ turn_unsound _ _ _ (deque_fails _ c.in_default.ensures))) in record { value = both.0; answer_value = rw (← deque_turn_values_lem) both.1 }
 
 pub slice_bounds-table-end : goal.slice_bounds-table-end
-slice_bounds-table-end c = deque_inside _ (passed (goal.at.slice_bounds-table-end c).Else-not-tested)
+slice_bounds-table-end c = deque_inside _ (passed (goal.at.slice_bounds-table-end c).In-Some)
 
 pub slice_bounds-table-end-2 : goal.slice_bounds-table-end-2
 slice_bounds-table-end-2 c =
-    sym (length-take-le c.args.run.run.length c.args.run.run.table (deque_inside _ (passed (goal.at.slice_bounds-table-end-2 c).Else-not-tested)))
+    sym (length-take-le c.args.run.run.length c.args.run.run.table (deque_inside _ (passed (goal.at.slice_bounds-table-end-2 c).In-Some)))
 
 pub overflow_cast-spoken : goal.overflow_cast-spoken
 overflow_cast-spoken c = omega (arith, told_small _ _ _ _ c.deque_turn_in-spoken.ensures)
 
 pub returns-then-spoken-ne0 : goal.returns-then-spoken-ne0
 returns-then-spoken-ne0 c = let both = (turned_answers (c.refused-then-spoken-ne0.ensures
-    ∙ deque_stopped _ (passed (goal.at.returns-then-spoken-ne0 c).Else-not-tested) _ (λ h. deque_parents _ c.deque_test-tested.ensures h) c.pack_deques.ensures _ _ c.deque_turn_in-spoken.ensures c.if-spoken-ne0.true)) in record { value = both.0; answer_value = rw (← deque_turn_values_lem) both.1 }
+    ∙ deque_stopped _ (passed (goal.at.returns-then-spoken-ne0 c).In-Some) _ (λ h. deque_parents _ _ c.in-Some.ensures h) c.pack_deques.ensures _ _ c.deque_turn_in-spoken.ensures c.if-spoken-ne0.true)) in record { value = both.0; answer_value = rw (← deque_turn_values_lem) both.1 }
 
 pub returns : goal.returns
-returns c = let both = (turned_answers (deque_taken _ (passed (goal.at.returns c).Else-not-tested) _ (λ h. deque_parents _ c.deque_test-tested.ensures h) c.pack_deques.ensures _ _ c.deque_turn_in-spoken.ensures c.if-spoken-ne0.false
+returns c = let both = (turned_answers (deque_taken _ (passed (goal.at.returns c).In-Some) _ (λ h. deque_parents _ _ c.in-Some.ensures h) c.pack_deques.ensures _ _ c.deque_turn_in-spoken.ensures c.if-spoken-ne0.false
     c.unpack_deques-after.ensures)) in record { value = both.0; answer_value = rw (← deque_turn_values_lem) both.1 }

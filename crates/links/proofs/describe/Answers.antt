@@ -3,13 +3,15 @@ use mathlib.Core.Path.{◌≡◌, ap, sym, ◌∙◌}
 use mathlib.Core.Bool.{Bool, true, false}
 use mathlib.Core.List.{List}
 use Prim.Native.Nat.{ℕ}
-use lib.ListN.{length}
-use native.Mathlib.Omega.{arith}
 use lib.Dec.{eqb}
 use Rattle.schedule.specs.Links.{Links}
 use Rattle.schedule.specs.Sound.{same_links}
 use Rattle.order.specs.Words.{same_list}
-use Rattle.order.proofs.Lists.{firsts_length}
+use Rattle.std.specs.Prelude.{nat_eq}
+use Rattle.std.specs.Cmp.Lexicographic.{pointwise}
+use Rattle.table.proofs.Tests.{no_way}
+use Rattle.links.proofs.Comparing.{pointwise_same}
+use Rattle.links.proofs.describe.Goals.{then-eq, else-eq}
 use Rattle.links.proofs.describe.Goals as goal
 
 -- the three tests, in the definition's order
@@ -33,26 +35,20 @@ module _ (k there : Links) {a : Bool} {lefts : List ℕ} (e : a ≡ same_list k.
     unfolding same_links
     third_decides i j = rw (on_left ∙ h, on_right ∙ i) (ap (eqb k.head) j)
 
-pub slice_bounds-same-end-2 : goal.slice_bounds-same-end-2
-slice_bounds-same-end-2 c = grind (arith, ap length c.lay-first.ensures.left_after, firsts_length)
+-- std's test is that of the definitions
+tested : (k l : List ℕ) {b : Bool} → b ≡ pointwise nat_eq k l → b ≡ same_list k l
+tested k l e = e ∙ pointwise_same k l
 
-pub same-requires : goal.same-requires
-same-requires c = grind (arith, ap length c.lay-first.ensures.left_after, firsts_length)
+pub returns-then-eq-2 : goal.returns-then-eq-2
+returns-then-eq-2 c =
+    elim c.if-eq.branch [
+      | then-eq w ↦ third_decides _ _ (tested _ _ c.eq.ensures) c.lay-first.ensures.left_after w.if-eq.true (tested _ _ w.eq-then-eq.ensures) c.lay-first.ensures.right_after (sym w.value-is ∙ c.if-eq-2.true) c.lay-first.ensures.value
+      | else-eq w ↦ no_way (cc (w.value-is, c.if-eq-2.true))
+    ]
 
-pub returns-then-not-same : goal.returns-then-not-same
-returns-then-not-same c =
-    first_fails _ _ c.same.ensures c.lay-first.ensures.left_after c.if-not-same.true
-
-pub slice_bounds-same-end-4 : goal.slice_bounds-same-end-4
-slice_bounds-same-end-4 c = grind (arith, ap length c.lay-first.ensures.right_after, firsts_length)
-
-pub same-requires-2 : goal.same-requires-2
-same-requires-2 c = grind (arith, ap length c.lay-first.ensures.right_after, firsts_length)
-
-pub returns-then-not-same-2 : goal.returns-then-not-same-2
-returns-then-not-same-2 c =
-    second_fails _ _ c.same.ensures c.lay-first.ensures.left_after c.if-not-same.false c.same-2.ensures c.lay-first.ensures.right_after c.if-not-same-2.true
-
-pub returns : goal.returns
-returns c =
-    third_decides _ _ c.same.ensures c.lay-first.ensures.left_after c.if-not-same.false c.same-2.ensures c.lay-first.ensures.right_after c.if-not-same-2.false c.lay-first.ensures.value
+pub returns-else-eq-2 : goal.returns-else-eq-2
+returns-else-eq-2 c =
+    elim c.if-eq.branch [
+      | then-eq w ↦ c.if-eq-2.false ∙ second_fails _ _ (tested _ _ c.eq.ensures) c.lay-first.ensures.left_after w.if-eq.true (tested _ _ w.eq-then-eq.ensures) c.lay-first.ensures.right_after (sym w.value-is ∙ c.if-eq-2.false)
+      | else-eq w ↦ c.if-eq-2.false ∙ first_fails _ _ (tested _ _ c.eq.ensures) c.lay-first.ensures.left_after w.if-eq.false
+    ]

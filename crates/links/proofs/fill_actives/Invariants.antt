@@ -1,5 +1,4 @@
 -- `links::fill_actives` meets its contract. The invariant: the whole filling is what the filling from t on makes of the links so far.
-use Prim.Native.Nat.{◌-◌}
 use Rattle.schedule.specs.Links.{no_thread}
 use Rattle.schedule.specs.Actives.{no_links, filled_from}
 use Rattle.links.proofs.Filling.{FilledTo}

@@ -4,6 +4,3 @@ use Rattle.links.proofs.lay_threads.Given as goal
 
 abbrev pub invariant-loop-i : goal.invariant-loop-i
 invariant-loop-i l = LaidFrom l.row l.left l.right l.i
-
-abbrev pub decreases-loop-i : goal.decreases-loop-i
-decreases-loop-i l = l.i

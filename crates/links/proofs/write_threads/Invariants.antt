@@ -1,11 +1,6 @@
 -- `links::write_threads` meets its contract. The invariant: the k threads written and those from t on are the whole list, and past them the row is as it was.
-use Prim.Native.Nat.{◌-◌}
-use lib.ListN.{length}
 use Rattle.links.proofs.Reading.{Written}
 use Rattle.links.proofs.write_threads.Given as goal
 
 abbrev pub invariant-loop-k : goal.invariant-loop-k
 invariant-loop-k l = Written l.right l.leftmost l.initial.row l.row l.t l.k
-
-abbrev pub decreases-loop-k : goal.decreases-loop-k
-decreases-loop-k l = length l.initial.row - l.k

@@ -18,7 +18,7 @@ use Rattle.chart.specs.Turns.{chart_turns}
 use Rattle.chart.proofs.Records.{wall_width, many, few, charted_unsound, charted_many, charted_written}
 use Rattle.soundness.proofs.Passed.{test_fails, test_passes, test_parents, has_workers}
 use Rattle.listing.specs.Sheets.{turns_texts}
-use Rattle.listing.proofs.chart_turns.Goals.{Else-not-tested}
+use Rattle.listing.proofs.chart_turns.Goals.{In-Some}
 use Rattle.listing.proofs.chart_turns.Goals as goal
 
 module _ (run : Run) (order : List ℕ) {out : List ℕ} {at : ℕ} {o : List ℕ} {r : ℕ} where
@@ -36,23 +36,23 @@ module _ (run : Run) (order : List ℕ) {out : List ℕ} {at : ℕ} {o : List �
       rw (← charted_written run u t) (puts_within (omega arith) (puts_more first p))
 
 -- the record passed the test, and has few enough turns
-passed : (c : Else-not-tested) → unsound c.args.run ≡ false
-passed c = test_passes _ c.test-tested.ensures c.if-not-tested.false
+passed : (c : In-Some) → unsound c.args.run ≡ false
+passed c = test_passes _ _ c.in-Some.ensures
 
-pub returns-then-not-tested : goal.returns-then-not-tested
-returns-then-not-tested c =
+pub returns-in_default : goal.returns-in_default
+returns-in_default c =
     let a = c.args in
-    refused a.run a.order.now 32 (charted_unsound a.run (test_fails _ c.test-tested.ensures c.if-not-tested.true)) c.put_refused.ensures
+    refused a.run a.order.now 32 (charted_unsound a.run (test_fails _ c.in_default.ensures)) c.put_refused.ensures
 
 pub returns-then-run-gt-MOST_TURNS : goal.returns-then-run-gt-MOST_TURNS
 returns-then-run-gt-MOST_TURNS c =
     let a = c.args in
-    refused a.run a.order.now 43 (charted_many a.run (passed (goal.at.returns-then-run-gt-MOST_TURNS c).Else-not-tested) (many a.run (passed (goal.at.returns-then-run-gt-MOST_TURNS c).Else-not-tested) c.if-run-gt-MOST_TURNS.true)) c.put_refused-then-run-gt-MOST_TURNS.ensures
+    refused a.run a.order.now 43 (charted_many a.run (passed (goal.at.returns-then-run-gt-MOST_TURNS c).In-Some) (many a.run (passed (goal.at.returns-then-run-gt-MOST_TURNS c).In-Some) c.if-run-gt-MOST_TURNS.true)) c.put_refused-then-run-gt-MOST_TURNS.ensures
 
 pub put_turns-requires : goal.put_turns-requires
-put_turns-requires c = record { run_value = passed (goal.at.put_turns-requires c).Else-not-tested; parents = (λ h. test_parents _ c.test-tested.ensures (has_workers _ (passed (goal.at.put_turns-requires c).Else-not-tested) h)); turns_le_most_turns = λ x. c.if-run-gt-MOST_TURNS.false }
+put_turns-requires c = record { run_value = passed (goal.at.put_turns-requires c).In-Some; parents = (λ h. test_parents _ _ c.in-Some.ensures (has_workers _ (passed (goal.at.put_turns-requires c).In-Some) h)); turns_le_most_turns = λ x. c.if-run-gt-MOST_TURNS.false }
 
 pub returns : goal.returns
 returns c =
     let a = c.args in
-    lined a.run a.order.now (passed (goal.at.returns c).Else-not-tested) (few a.run (passed (goal.at.returns c).Else-not-tested) c.if-run-gt-MOST_TURNS.false) c.put_line-at.ensures c.put_turns.ensures
+    lined a.run a.order.now (passed (goal.at.returns c).In-Some) (few a.run (passed (goal.at.returns c).In-Some) c.if-run-gt-MOST_TURNS.false) c.put_line-at.ensures c.put_turns.ensures

@@ -16,7 +16,7 @@ use Rattle.text.specs.Puts.{Puts}
 use Rattle.text.proofs.Putting.{puts_within}
 use Rattle.soundness.proofs.Passed.{test_fails, test_passes, test_parents, has_workers}
 use Rattle.listing.specs.Sheets.{turns_texts}
-use Rattle.listing.proofs.list_turns.Goals.{Else-not-tested}
+use Rattle.listing.proofs.list_turns.Goals.{In-Some}
 use Rattle.listing.proofs.list_turns.Goals as goal
 
 module _ (run : Run) (order : List ℕ) {out o : List ℕ} {at r : ℕ} where
@@ -29,16 +29,16 @@ module _ (run : Run) (order : List ℕ) {out o : List ℕ} {at r : ℕ} where
   tested u p = rw u p
 
 -- the record passed the test
-passed : (c : Else-not-tested) → unsound c.args.run ≡ false
-passed c = test_passes _ c.test-tested.ensures c.if-not-tested.false
+passed : (c : In-Some) → unsound c.args.run ≡ false
+passed c = test_passes _ _ c.in-Some.ensures
 
-pub returns-then-not-tested : goal.returns-then-not-tested
-returns-then-not-tested c =
-    not_sound c.args.run c.args.order.now (test_fails _ c.test-tested.ensures c.if-not-tested.true) c.put_refused.ensures
+pub returns-in_default : goal.returns-in_default
+returns-in_default c =
+    not_sound c.args.run c.args.order.now (test_fails _ c.in_default.ensures) c.put_refused.ensures
 
 pub put_turns-requires : goal.put_turns-requires
-put_turns-requires c = record { run_value = passed (goal.at.put_turns-requires c).Else-not-tested; parents = (λ h. test_parents _ c.test-tested.ensures (has_workers _ (passed (goal.at.put_turns-requires c).Else-not-tested) h)); turns_le_most_turns = λ x. absurd (let z : ◌≡◌ {A = ℕ} 0 1 = cc in omega arith) }
+put_turns-requires c = record { run_value = passed (goal.at.put_turns-requires c).In-Some; parents = (λ h. test_parents _ _ c.in-Some.ensures (has_workers _ (passed (goal.at.put_turns-requires c).In-Some) h)); turns_le_most_turns = λ x. absurd (let z : ◌≡◌ {A = ℕ} 0 1 = cc in omega arith) }
 
 pub returns : goal.returns
 returns c =
-    tested c.args.run c.args.order.now (passed (goal.at.returns c).Else-not-tested) c.put_turns.ensures
+    tested c.args.run c.args.order.now (passed (goal.at.returns c).In-Some) c.put_turns.ensures

@@ -9,24 +9,24 @@ use Rattle.soundness.proofs.Passed.{test_fails, test_passes, test_parents}
 use Rattle.asyncdf.proofs.Calls.{table_inside}
 use Rattle.wivakkol_pace.specs.PacedRuns.{paced_worker}
 use Rattle.pacing.proofs.PacedRefines.{run_unsound, run_taken, run_small, ran_as}
-use Rattle.pacing.proofs.paced_run.Goals.{Else-not-tested}
+use Rattle.pacing.proofs.paced_run.Goals.{In-Some}
 use Rattle.pacing.proofs.paced_run.Goals as goal
 
 -- the record passed the test
-passed : (c : Else-not-tested) → unsound c.args.run ≡ false
-passed c = test_passes _ c.test-tested.ensures c.if-not-tested.false
+passed : (c : In-Some) → unsound c.args.run ≡ false
+passed c = test_passes _ _ c.in-Some.ensures
 
-pub returns-then-not-tested : goal.returns-then-not-tested
-returns-then-not-tested c =
+pub returns-in_default : goal.returns-in_default
+returns-in_default c =
     let d = c.args in
-    c.unsound.ensures ∙ run_unsound (paced_worker d.order.now d.rounds) d.rounds d.limit d.run d.pace (test_fails _ c.test-tested.ensures c.if-not-tested.true)
+    c.unsound.ensures ∙ run_unsound (paced_worker d.order.now d.rounds) d.rounds d.limit d.run d.pace (test_fails _ c.in_default.ensures)
 
 pub slice_bounds-table-end : goal.slice_bounds-table-end
-slice_bounds-table-end c = table_inside _ (passed (goal.at.slice_bounds-table-end c).Else-not-tested)
+slice_bounds-table-end c = table_inside _ (passed (goal.at.slice_bounds-table-end c).In-Some)
 
 pub slice_bounds-table-end-2 : goal.slice_bounds-table-end-2
 slice_bounds-table-end-2 c =
-    sym (length-take-le c.args.run.length c.args.run.table (table_inside _ (passed (goal.at.slice_bounds-table-end-2 c).Else-not-tested)))
+    sym (length-take-le c.args.run.length c.args.run.table (table_inside _ (passed (goal.at.slice_bounds-table-end-2 c).In-Some)))
 
 pub overflow_cast-stop : goal.overflow_cast-stop
 overflow_cast-stop c = omega (arith, run_small _ _ _ _ _ _ c.run_in-stop.ensures)
@@ -34,4 +34,4 @@ overflow_cast-stop c = omega (arith, run_small _ _ _ _ _ _ c.run_in-stop.ensures
 pub returns : goal.returns
 returns c =
     ran_as c.report_of-report.ensures c.unpack-after.ensures
-    (run_taken _ (passed (goal.at.returns c).Else-not-tested) _ (λ h. test_parents _ c.test-tested.ensures h) c.pack.ensures _ _ _ _ c.run_in-stop.ensures)
+    (run_taken _ (passed (goal.at.returns c).In-Some) _ (λ h. test_parents _ _ c.in-Some.ensures h) c.pack.ensures _ _ _ _ c.run_in-stop.ensures)

@@ -1,5 +1,5 @@
 -- `quota::quota_for` meets its contract: the answer, check by check.
-use Rattle.std.specs.Prelude.{Ok}
+use Rattle.std.specs.Prelude.{Ok, Err}
 use mathlib.Core.Path.{◌≡◌, sym, ap, ◌∙◌}
 use Prim.Native.Nat.{ℕ, ◌-◌, ◌≤◌}
 use mathlib.Core.Bool.{false}
@@ -31,14 +31,14 @@ most_found_lem c =
     ∙ most_is c.requires a.p a.b a.memory
 
 pub returns-then-outside : goal.returns-then-outside
-returns-then-outside c = c.refuse.ensures ∙ many_workers _ _ _ _ (sym c.outside.ensures ∙ c.if-outside.true)
+returns-then-outside c = ap Err c.new.ensures ∙ many_workers _ _ _ _ (sym c.outside.ensures ∙ c.if-outside.true)
 
 pub returns-then-outside-2 : goal.returns-then-outside-2
-returns-then-outside-2 c = c.refuse-then-outside-2.ensures ∙ wide_gap _ _ _ _ (workers_in_lem (goal.at.returns-then-outside-2 c).Else-outside) (sym c.outside-2.ensures ∙ c.if-outside-2.true)
+returns-then-outside-2 c = ap Err c.new-then-outside-2.ensures ∙ wide_gap _ _ _ _ (workers_in_lem (goal.at.returns-then-outside-2 c).Else-outside) (sym c.outside-2.ensures ∙ c.if-outside-2.true)
 
 pub returns-then-memory-peak : goal.returns-then-memory-peak
 returns-then-memory-peak c =
-    c.refuse-then-memory-peak.ensures
+    ap Err c.new-then-memory-peak.ensures
     ∙ little_memory _ _ _ _ (workers_in_lem (goal.at.returns-then-memory-peak c).Else-outside) (gap_in_lem (goal.at.returns-then-memory-peak c).Else-outside-2) (omega (arith, peak_is c.requires, c.if-memory-peak.true))
 
 pub cost-requires : goal.cost-requires
@@ -50,7 +50,7 @@ cost-requires c =
 
 pub returns-then-most-least_quota : goal.returns-then-most-least_quota
 returns-then-most-least_quota c =
-    c.refuse-then-most-least_quota.ensures
+    ap Err c.new-then-most-least_quota.ensures
     ∙ below_least _ _ _ _ (workers_in_lem (goal.at.returns-then-most-least_quota c).Else-outside) (gap_in_lem (goal.at.returns-then-most-least_quota c).Else-outside-2) (peak_in (goal.at.returns-then-most-least_quota c).Else-memory-peak) (omega (arith, most_found_lem (goal.at.returns-then-most-least_quota c).After-most_within-most, c.least_quota.ensures, c.if-most-least_quota.true))
 
 pub returns : goal.returns

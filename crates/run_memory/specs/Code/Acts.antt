@@ -1,5 +1,5 @@
 -- What a worker's action leaves in lent memory.
-use Rattle.std.specs.Prelude.{◌≡◌, ℕ, ◌+◌, ◌^◌, ◌<◌, List, [], ◌∷◌, Bool, true, false, get_or, set}
+use Rattle.std.specs.Prelude.{◌≡◌, ℕ, ◌+◌, ◌^◌, ◌<◌, List, [], ◌∷◌, Bool, true, false, get_or, set, None, Option, Some}
 use Rattle.table.specs.Sum.{pick}
 use Rattle.table.specs.Format.{Table}
 use Rattle.table.specs.declared.kinds.Kind.{Kind}
@@ -12,7 +12,6 @@ use Rattle.schedule.specs.Record.{max_workers}
 use Rattle.array_machine.specs.Arrays.{with_statuses}
 use Rattle.array_machine.specs.Turn.{Outcome, act_on}
 use Rattle.array_machine.specs.Counted.{busy_after}
-use Rattle.run_memory.specs.declared.act.Went.{Went}
 use Rattle.run_memory.specs.Memory.{Memory, memory, worker_in, moved_in}
 
 -- whether all fitted; if not, nothing was moved
@@ -21,8 +20,10 @@ pub record Gone : Type 0 where
   pub reply : Reply
   pub memory : Memory
 
-abbrev pub gone : Went → Memory → Gone
-gone r M = record { fits = r.fits; reply = r.reply; memory = M }
+-- of a reply, or none where something does not fit
+abbrev pub gone : Option Reply → Memory → Gone
+gone None M = record { fits = false; reply = Idle; memory = M }
+gone (Some r) M = record { fits = true; reply = r; memory = M }
 
 -- the memory after it, the turn not yet counted
 abbrev pub went_to : Memory → ℕ → Outcome → Memory

@@ -69,7 +69,7 @@ module _ (T : Table) (l : Lawful T) (p K w t a : ℕ) (st : State) (f : Facts T 
   next_fits : t < length st.next
   next_fits = omega (arith, f.next_size, l.few_threads, x.thread)
 
-  worker_fits : w < length st.workers
+  pub worker_fits : w < length st.workers
   worker_fits = omega (arith, f.holding.worker_size, x.worker)
 
   unended : eqb (status_of st t) ended ≡ false

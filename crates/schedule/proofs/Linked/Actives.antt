@@ -154,12 +154,12 @@ actives_append s (x ∷ k) l = go (eqb (get_or s x 0) waiting) (actives_append s
     go false ih = rw ih
 
 -- t's first place is behind a list in which it is not
-left_of_after : (c t : ℕ) (k l : List ℕ) → (Memᴰ t k → ⊥) → left_of c t (k ++ t ∷ l) ≡ k ++ c ∷ t ∷ l
+pub left_of_after : (c t : ℕ) (k l : List ℕ) → (Memᴰ t k → ⊥) → left_of c t (k ++ t ∷ l) ≡ k ++ c ∷ t ∷ l
 unfolding left_of
 left_of_after c t [] l n = rw (eq-eqb t t refl)
 left_of_after c t (x ∷ k) l n = rw (ne_eqb x t (λ e. n (mathlib.Core.List.Memᴰ.head (sym e))), left_of_after c t k l (λ m. n (mathlib.Core.List.Memᴰ.tail m)))
 
-without_after : (t : ℕ) (k l : List ℕ) → (Memᴰ t k → ⊥) → without t (k ++ t ∷ l) ≡ k ++ l
+pub without_after : (t : ℕ) (k l : List ℕ) → (Memᴰ t k → ⊥) → without t (k ++ t ∷ l) ≡ k ++ l
 unfolding without
 without_after t [] l n = rw (eq-eqb t t refl)
 without_after t (x ∷ k) l n = rw (ne_eqb x t (λ e. n (mathlib.Core.List.Memᴰ.head (sym e))), without_after t k l (λ m. n (mathlib.Core.List.Memᴰ.tail m)))

@@ -85,7 +85,7 @@ second_finds under over first status l h o b =
 
 -- ---- what a search passes
 
-leftmost_within : (status l : List ℕ) → leftmost status l ≤ length l
+pub leftmost_within : (status l : List ℕ) → leftmost status l ≤ length l
 unfolding leftmost
 leftmost_within status [] = omega arith
 leftmost_within status (t ∷ l) = go (eqb (get_or status t 0) ready) (leftmost_within status l)

@@ -50,7 +50,7 @@ awaited T st u = T.argument (next_of st u)
 -- ---- numbers
 
 module _ (T : Table) (l : Lawful T) where
-  number_along : (a d : ℕ) → a ≤ d → d < T.actions → owner T a ≡ owner T d → number_of T a ≤ number_of T d
+  pub number_along : (a d : ℕ) → a ≤ d → d < T.actions → owner T a ≡ owner T d → number_of T a ≤ number_of T d
   number_along a d h i o = go (ℕ_discrete a d)
     where
       go : Dec (a ≡ d) → number_of T a ≤ number_of T d

@@ -65,7 +65,7 @@ waits_for_lem T st u t e =
     (and_both (is join (kind T (next_of st u))) (eqb (T.argument (next_of st u)) t)
     (and_both (eqb (status_of st u) waiting) (is join (kind T (next_of st u)) && eqb (T.argument (next_of st u)) t) e).1).1
 
-waits_true : (T : Table) (st : State) (u t : ℕ) → waits_for T st u t ≡ true → status_of st u ≡ waiting
+pub waits_true : (T : Table) (st : State) (u t : ℕ) → waits_for T st u t ≡ true → status_of st u ≡ waiting
 unfolding waits_for
 waits_true T st u t e = eqb-true (status_of st u) waiting (and_both _ _ e).0
 

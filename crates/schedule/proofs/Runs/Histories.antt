@@ -80,7 +80,7 @@ begin_started s p K r e =
       few_workers = f.few_workers;
     }
 
-start_bytes : (s : List ℕ) (p K : ℕ) → table_in (start_run s p K) ≡ table_of s
+pub start_bytes : (s : List ℕ) (p K : ℕ) → table_in (start_run s p K) ≡ table_of s
 unfolding start_run
 start_bytes s p K = ap table_of (filled_front max_bytes s)
 
@@ -327,7 +327,7 @@ start_state_lem s p K r e =
 
 -- of a beginning and a list of calls: the record left is the state after the row, and is sound but for its turns taken; the workers of every front part are below p
 pub record Traced (s : List ℕ) (p K : ℕ) (r : Run) (calls : List Call) : Type 0 where
-  pub (Ok tt) : Started s p K r
+  pub started : Started s p K r
   pub steady : Steady (after_calls calls r)
   pub state : state_of (after_calls calls r) ≡ row_state (table_of (filled_out s K)) K (start_state (table_of (filled_out s K))) (row_of_calls calls r)
   pub below : (front rest : List ℕ) → row_of_calls calls r ≡ front ++ rest → (w : ℕ) → Memᴰ w front → w < p
@@ -338,7 +338,7 @@ calls_traced s p K r e calls =
     let c : Left r (row_of_calls calls r) (after_calls calls r) = calls_left r h calls in
     let o = start_state_lem s p K r e in
     record {
-      (Ok _) = begin_started s p K r e;
+      started = begin_started s p K r e;
       steady = calls_steady r h calls;
       state = cc (c.state, o.0, o.2, o.3);
       below = λ front rest d. front_workers (λ w. w < p) (row_of_calls calls r) front rest d (λ w m. omega (arith, c.workers_below w m, o.1));

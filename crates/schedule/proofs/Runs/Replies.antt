@@ -1,8 +1,8 @@
 -- One turn's amounts: memory held moves by what the reply says was done, and its highest follows it.
 use mathlib.Core.Path.{◌≡◌, refl, ap}
-use Prim.Native.Nat.{ℕ, suc, ◌+◌, ◌≤◌, ◌<◌, max}
+use Prim.Native.Nat.{ℕ, ◌+◌, ◌≤◌, ◌<◌, max}
 use native.Mathlib.Omega.{arith}
-use mathlib.Core.List.{List, [], ◌∷◌, Memᴰ}
+use mathlib.Core.List.{Memᴰ}
 use mathlib.Core.Bool.{Bool, true, false}
 use lib.ListN.{length, get_or}
 use lib.Dec.{leb, eqb}
@@ -19,17 +19,9 @@ use Rattle.schedule.specs.Machine.{without, waits_for, parent_of, woken, act_by,
 use Rattle.schedule.specs.Memory.{of_reply}
 use Rattle.order.proofs.Lists.{get_d_member}
 use Rattle.order.proofs.Lawful.{Lawful}
+use Rattle.schedule.proofs.Linked.Searches.{leftmost_within}
 use Rattle.schedule.proofs.Sound.Facts.{Facts}
 use Rattle.schedule.proofs.Sound.Shares.{free_held}
-
-pub leftmost_within : (status l : List ℕ) → leftmost status l ≤ length l
-unfolding leftmost
-leftmost_within status [] = omega arith
-leftmost_within status (t ∷ l) = go (eqb (get_or status t 0) ready) (leftmost_within status l)
-  where
-    go : (b : Bool) → leftmost status l ≤ length l → pick b 0 (suc (leftmost status l)) ≤ suc (length l)
-    go true h = omega arith
-    go false h = omega arith
 
 -- ---- what a step does to the amounts
 

@@ -8,7 +8,7 @@ use mathlib.Core.Logic.{◌⊎◌, inl, inr}
 use Rattle.table.specs.Sum.{greatest}
 use Rattle.table.specs.Format.{Table}
 use Rattle.table.specs.Checks.{alloc_of, free_of}
-use Rattle.table.proofs.Levels.{greatest_same}
+use Rattle.table.proofs.Levels.{greatest_same, greatest_bound}
 use Rattle.table.proofs.Peaks.{greatest_map}
 use Rattle.schedule.specs.Machine.{State, turn_of}
 use Rattle.schedule.specs.Begin.{start_state}
@@ -111,3 +111,8 @@ module _ (T : Table) (l : Lawful T) (p K : ℕ) (few : p ≤ 16) where
       greatest_same (λ front. (row_state T K (start_state T) front).held) (row_memory T K) (front_rows row)
       (λ front m. let r = front_rest row front m in row_held front (front_workers (λ w. w < p) row front r.0 r.1 h)) in
       omega (arith, e, row_tops (start_state T) (start_facts T l p K) row h, (start_held T l).1)
+
+-- the greatest amount after a front part is within what bounds them all
+pub peak_within_lem : (T : Table) (K B : ℕ) (row : List ℕ) → ((front rest : List ℕ) → row ≡ front ++ rest → row_memory T K front ≤ B) → peak_memory T K row ≤ B
+unfolding peak_memory
+peak_within_lem T K B row h = greatest_bound (row_memory T K) (front_rows row) B (λ front m. let r = front_rest row front m in h front r.0 r.1)

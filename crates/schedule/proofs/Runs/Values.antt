@@ -59,7 +59,7 @@ unfolding after_turns
 after_next f zero r = refl
 after_next f (suc n) r = ap (λ (x : Run). moved x (f (suc n))) (after_next f n r)
 
-first_same : (g h : ℕ → Bool) → ((n : ℕ) → g n ≡ h n) → (k : ℕ) → first_that g k ≡ first_that h k
+pub first_same : (g h : ℕ → Bool) → ((n : ℕ) → g n ≡ h n) → (k : ℕ) → first_that g k ≡ first_that h k
 first_same g h e k = ap (λ (x : ℕ → Bool). first_that x k) (fun_ext e)
 
 -- the first that passes is one that passes, or k where none below it does, and none before it passes
@@ -146,13 +146,21 @@ module _ (who f : ℕ → ℕ) (k i : ℕ) (r : Run) (same : who i ≡ f 0) wher
       go false false true p q s = sym (stop_now f k r i (stops_by r (f 0) ∙ rw (p, q, s)) ∙ rw (p, q, s))
       go false false false p q s = rest ∙ sym (go_on f k r i (stops_by r (f 0) ∙ rw (p, q, s)))
 
+-- what a run answers that no check stops
+pub left_values : (i : ℕ) (over : Bool) → report_values (pick over (Finished i) (Spent i)) ≡ said_values (Ok tt) (pick over finished spent) 0 0 i
+left_values i true = refl
+left_values i false = refl
+
+-- a reply is no refusal
+pub reply_number : (x : Reply) → (reply_values x).number ≡ 0
+reply_number Idle = refl
+reply_number (Done t a) = refl
+reply_number (Quota t a) = refl
+reply_number (Wait t c) = refl
+
 drive_values : (who f : ℕ → ℕ) (k i : ℕ) (r : Run) → ((n : ℕ) → who (i + n) ≡ f n) → report_values (drive who k i r).report ≡ from i f k r
 unfolding drive turns_taken first_that after_turns
-drive_values who f zero i r h = rw add-zero (go (root_ended r))
-  where
-    go : (b : Bool) → report_values (pick b (Finished i) (Spent i)) ≡ said_values (Ok tt) (pick b finished spent) 0 0 i
-    go true = refl
-    go false = refl
+drive_values who f zero i r h = rw add-zero (left_values i (root_ended r))
 drive_values who f (suc k) i r h =
     drive_step who f k i r (rw add-zero at (h 0))
     (drive_values who (λ n. f (suc n)) k (suc i) (moved r (f 0)) (λ n. ap who (suc-add i n ∙ sym (add-suc i n)) ∙ h (suc n)))

@@ -98,7 +98,7 @@ listed_exactly T next status list =
 
 -- ---- a sound record
 
-same_links_exactly : (k l : Links) → (same_links k l ≡ true) ↔ (k ≡ l)
+pub same_links_exactly : (k l : Links) → (same_links k l ≡ true) ↔ (k ≡ l)
 unfolding same_links
 same_links_exactly k l =
     Iff.trans (and_of (same_list_exactly k.left l.left) (and_of (same_list_exactly k.right l.right) (eqb_exactly k.head l.head))) (

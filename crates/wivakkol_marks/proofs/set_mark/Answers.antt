@@ -8,10 +8,10 @@ use Rattle.wivakkol_marks.proofs.Marking.{set_unsound, set_above, set_done}
 use Rattle.wivakkol_marks.proofs.set_mark.Goals as goal
 
 pub returns-then-not-fits : goal.returns-then-not-fits
-returns-then-not-fits c = record { marksums_after = set_unsound _ _ _ _ c.fit_marked-fits.ensures c.if-not-fits.true; set_len = λ e. absurd (omega (arith, e)) }
+returns-then-not-fits c = set_unsound _ _ _ _ c.fit_marked-fits.ensures c.if-not-fits.true
 
 pub returns-then-i-gt-LAST_MARK : goal.returns-then-i-gt-LAST_MARK
-returns-then-i-gt-LAST_MARK c = record { marksums_after = set_above _ _ _ _ c.fit_marked-fits.ensures c.if-not-fits.false c.if-i-gt-LAST_MARK.true; set_len = λ e. absurd (omega (arith, e)) }
+returns-then-i-gt-LAST_MARK c = set_above _ _ _ _ c.fit_marked-fits.ensures c.if-not-fits.false c.if-i-gt-LAST_MARK.true
 
 pub returns : goal.returns
-returns c = record { marksums_after = set_done _ _ _ _ c.fit_marked-fits.ensures c.if-not-fits.false (omega (arith, c.if-i-gt-LAST_MARK.false)) c.note.ensures c.store.ensures; set_len = λ e. omega arith }
+returns c = set_done _ _ _ _ c.fit_marked-fits.ensures c.if-not-fits.false (omega (arith, c.if-i-gt-LAST_MARK.false)) c.note.ensures c.store.ensures

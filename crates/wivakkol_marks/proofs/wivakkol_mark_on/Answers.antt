@@ -1,6 +1,7 @@
 -- `wivakkol_marks::wivakkol_mark_on` meets its contract: the call, and the working memory cleared.
-use borrow.Author.Rules.{rules}
+use native.Mathlib.Omega.{arith}
+use lib.ListN.{length}
 use Rattle.wivakkol_marks.proofs.wivakkol_mark_on.Goals as goal
 
 pub returns : goal.returns
-returns c = let s = c.set_mark-number.ensures in record { marksums_after = s.marksums_after; cleared = c.clear.ensures; set_len = s.set_len }
+returns c = record { marksums_after = rw c.number_of.ensures c.set_mark-marked.ensures; cleared = c.clear.ensures; set_len = λ e. omega arith }

@@ -1,35 +1,33 @@
-use Rattle.std.specs.Prelude.{Err, Ok, Result, ⊤}
+use Rattle.std.specs.Prelude.{Err, Result, None, Some, Option, ⊤}
 use Rattle.table.specs.declared.Refusal.{Refusal}
 use mathlib.Core.Path.{◌≡◌, refl, sym, ap, ◌∙◌}
 use Prim.Native.Nat.{ℕ, suc, ◌+◌, ◌-◌, ◌*◌, ◌<◌, ◌≤◌}
 use mathlib.Core.List.{List}
 use native.Mathlib.Omega.{arith}
-use borrow.Author.Tests.{lt-ltb, le-ltb}
-use lib.Dec.{ltb}
 use lib.ListN.{length, get_or, set, drop}
-use Rattle.table.specs.Sum.{pick, sum_to}
+use Rattle.table.specs.Sum.{sum_to}
 use Rattle.table.specs.Format.{kind, bodies_from, body_of, table_of, first_of, count_of, own_amount}
 use Rattle.table.specs.declared.kinds.Kind.{Kind}
 use Rattle.table.specs.declared.kinds.Kind.TheVariants.{Alloc as alloc, Free as free, Join as join}
-use Rattle.table.specs.Pass.{try_from, try_pass, or_else, refusal}
+use Rattle.table.specs.Pass.{try_from, try_pass, or_else}
 use Rattle.table.specs.Checks.{counts_below, alloc_of, free_of, whole, part_of, balance, balance_below0, balance_pass}
 use Rattle.table.specs.Rules.{ContentRules, BodyRules}
 use Rattle.table.specs.Code.Steps.{Nested, Filled, WalkReady, amount_at}
 use Rattle.checks.specs.Code.Steps.{overdrawn, balance_of}
 use Rattle.checks.specs.declared.balance.Balance.{Balance}
-use Rattle.table.proofs.Tests.{negative_is}
+use Rattle.table.proofs.Tests.{no_way, negative_is}
 use Rattle.table.proofs.Sizes.{sizes}
 use Rattle.table.proofs.Trying.{try_from_split, try_from_last, try_from_all}
 use Rattle.table.proofs.Bodies.{names_join, first_is, counts_all, body_within, owner_at}
 use Rattle.table.proofs.Amounts.{whole_is, part_of_bound}
 use Rattle.table.proofs.Walks.{argument_small, children_above, own_small, sums_agree, walk_ready, filled_set}
-use Rattle.checks.proofs.Least.{least_cong, least_found}
+use Rattle.checks.proofs.Least.{first_cong, first_below, first_found_at, says, says_at}
 use Rattle.table.proofs.Parts.{body_from}
 use Rattle.checks.proofs.balance.balances.Invariants.{Inv}
 use Rattle.checks.proofs.balance.balances.Goals.{After-body_of-body}
 use Rattle.checks.proofs.balance.balances.Goals as goal
 
-start : {s : List ℕ} {n m : ℕ} {rises falls : List ℕ} → Nested s n m → ((i : ℕ) → get_or s i 0 < 256) → length rises ≡ 1024 → length falls ≡ 1024 → Inv s n m rises falls m n
+start : {s : List ℕ} {n m : ℕ} {rises falls : List ℕ} → Nested s n m → ((i : ℕ) → get_or s i 0 < 256) → length rises ≡ 1024 → length falls ≡ 1024 → Inv s n m rises falls None n
 unfolding table_of
 start {s} {n} {m} r bytes p q =
     let d = r.formed.laid.headed in
@@ -41,26 +39,27 @@ start {s} {n} {m} r bytes p q =
       within = omega arith;
       rises_done = record { size = p; right = λ t l k. absurd (omega (arith, d.threads)) };
       falls_done = record { size = q; right = λ t l k. absurd (omega (arith, d.threads)) };
-      found = try_from_last _ _ m e ∙ rw (le-ltb m m (omega arith));
+      inside = λ i z. no_way (cc);
+      found = try_from_last _ _ m e;
     }
 
 -- after the loop all places are tried
-ends : {s : List ℕ} {n m : ℕ} {rises falls : List ℕ} {lowest t : ℕ} → Inv s n m rises falls lowest t → t ≤ 0
-    → {r : Result ⊤ Refusal} → r ≡ pick (ltb lowest m) (Err (refusal 10 lowest)) (Ok tt) → r ≡ try_pass (balance_pass (table_of s))
+ends : {s : List ℕ} {n m : ℕ} {rises falls : List ℕ} {lowest : Option ℕ} {t : ℕ} → Inv s n m rises falls lowest t → t ≤ 0
+    → {r : Result ⊤ Refusal} → r ≡ says_at 10 lowest → r ≡ try_pass (balance_pass (table_of s))
 unfolding try_pass table_of sum_to
 ends {s} {m = m} {t = t} v h d =
     let e : t ≡ 0 = omega arith in
     d ∙ sym (ap (try_from (balance_pass (table_of s)).checks 0) (sym v.nested.formed.laid.headed.actions) ∙ sym (try_from_all _ m) ∙ rw e at v.found)
 
 -- the turn for thread u: the invariant for the thread above it, and what has been read
-record Turn (s : List ℕ) (n m : ℕ) (rises falls : List ℕ) (lowest t u first count : ℕ) (body : List ℕ) : Type 0 where
+record Turn (s : List ℕ) (n m : ℕ) (rises falls : List ℕ) (lowest : Option ℕ) (t u first count : ℕ) (body : List ℕ) : Type 0 where
   inv : Inv s n m rises falls lowest t
   next : suc u ≡ t
   first_at : first ≡ (table_of s).first u
   count_at : count ≡ (table_of s).count u
   body_is : body ≡ body_of s u
 
-module _ {s : List ℕ} {n m : ℕ} {rises falls : List ℕ} {lowest t u first count : ℕ} {body : List ℕ} (w : Turn s n m rises falls lowest t u first count body) where
+module _ {s : List ℕ} {n m : ℕ} {rises falls : List ℕ} {lowest : Option ℕ} {t u first count : ℕ} {body : List ℕ} (w : Turn s n m rises falls lowest t u first count body) where
   nested : Nested s n m
   nested = w.inv.nested
 
@@ -126,15 +125,15 @@ module _ {s : List ℕ} {n m : ℕ} {rises falls : List ℕ} {lowest t u first c
 
   module _ (r : Balance) (e : r ≡ balance_of body rises falls count) where
     -- what is found in this body
-    body_found : try_from (balance_pass (table_of s)).checks ((table_of s).first u) count ≡ pick (ltb r.below count) (Err (refusal 10 (first + r.below))) (Ok tt)
+    body_found : try_from (balance_pass (table_of s)).checks ((table_of s).first u) count ≡ says 10 first r.below
     unfolding table_of balance_of
     body_found =
-        rw (e, w.body_is, w.count_at, w.first_at, least_cong (overdrawn (body_of s u) rises falls) (λ i. balance_below0 (table_of s) (first_of s u + i)) (count_of s u) overdrawn_is)
-        (least_found (record { number = 10; applies = balance_below0 (table_of s) }) (first_of s u) (count_of s u))
+        rw (e, w.body_is, w.count_at, w.first_at, first_cong (overdrawn (body_of s u) rises falls) (λ i. balance_below0 (table_of s) (first_of s u + i)) (count_of s u) overdrawn_is)
+        (first_found_at (record { number = 10; applies = balance_below0 (table_of s) }) (first_of s u) (count_of s u))
 
     -- and from this body on
     found_next : try_from (balance_pass (table_of s)).checks (counts_below (table_of s) u) (m - counts_below (table_of s) u)
-        ≡ or_else (pick (ltb r.below count) (Err (refusal 10 (first + r.below))) (Ok tt)) (pick (ltb lowest m) (Err (refusal 10 lowest)) (Ok tt))
+        ≡ or_else (says 10 first r.below) (says_at 10 lowest)
     unfolding sum_to table_of
     found_next =
         let f : ℕ = counts_below (table_of s) u in
@@ -143,11 +142,12 @@ module _ {s : List ℕ} {n m : ℕ} {rises falls : List ℕ} {lowest t u first c
         let j : m - f ≡ count + (m - (f + count)) = omega (arith, within_m, w.first_at) in
         rw j (try_from_split (balance_pass (table_of s)).checks f count (m - (f + count)) ∙ rw (rw a at body_found, rw g at w.inv.found))
 
-    again : (lowest' : ℕ)
-        → try_from (balance_pass (table_of s)).checks (counts_below (table_of s) u) (m - counts_below (table_of s) u) ≡ pick (ltb lowest' m) (Err (refusal 10 lowest')) (Ok tt)
+    again : (lowest' : Option ℕ)
+        → try_from (balance_pass (table_of s)).checks (counts_below (table_of s) u) (m - counts_below (table_of s) u) ≡ says_at 10 lowest'
+        → ((i : ℕ) → lowest' ≡ Some i → i < m)
         → Inv s n m (set rises u r.rise) (set falls u r.fall) lowest' u
     unfolding table_of balance_of alloc_of free_of
-    again lowest' f =
+    again lowest' f j =
         record {
           nested = nested;
           sizes = w.inv.sizes;
@@ -155,19 +155,24 @@ module _ {s : List ℕ} {n m : ℕ} {rises falls : List ℕ} {lowest t u first c
           within = omega (arith, w.next, w.inv.within);
           rises_done = filled_next alloc (alloc_of (table_of s)) (λ a. refl) rises w.inv.rises_done r.rise (rw (e, w.body_is, w.count_at));
           falls_done = filled_next free (free_of (table_of s)) (λ a. refl) falls w.inv.falls_done r.fall (rw (e, w.body_is, w.count_at));
+          inside = j;
           found = f;
         }
 
-    lower : r.below < count → Inv s n m (set rises u r.rise) (set falls u r.fall) (first + r.below) u
-    lower b =
-        let j : first + r.below < m = omega (arith, within_m) in
-        again (first + r.below) (rw (found_next, lt-ltb r.below count b, lt-ltb (first + r.below) m j))
+    below_count : {i : ℕ} → r.below ≡ Some i → i < count
+    unfolding balance_of
+    below_count {i} b = first_below (overdrawn body rises falls) count i (sym (ap (λ (x : Balance). x.below) e) ∙ b)
 
-    same : count ≤ r.below → Inv s n m (set rises u r.rise) (set falls u r.fall) lowest u
-    same b = again lowest (rw (found_next, le-ltb r.below count b))
+    lower : {i : ℕ} → r.below ≡ Some i → Inv s n m (set rises u r.rise) (set falls u r.fall) (Some (first + i)) u
+    lower {i} b =
+        again (Some (first + i)) (rw (found_next, b))
+        (λ j q. let w : first + i ≡ j = cc in omega (arith, below_count b, within_m))
+
+    same : r.below ≡ None → Inv s n m (set rises u r.rise) (set falls u r.fall) lowest u
+    same b = again lowest (rw (found_next, b)) w.inv.inside
 
 -- the body that is walked is the thread's
-body_is : {s : List ℕ} {n m : ℕ} {rises falls : List ℕ} {lowest t : ℕ} → Inv s n m rises falls lowest t
+body_is : {s : List ℕ} {n m : ℕ} {rises falls : List ℕ} {lowest : Option ℕ} {t : ℕ} → Inv s n m rises falls lowest t
     → (u : ℕ) {l : List ℕ} → l ≡ drop (4 * (table_of s).first u) (bodies_from s n) → l ≡ body_of s u
 unfolding table_of
 body_is {s} {n} v u e = e ∙ body_from s n v.nested.formed.laid.headed.threads u
@@ -193,22 +198,23 @@ pub balance_walk-w-requires : goal.balance_walk-w-requires
 balance_walk-w-requires c = ready (turn (goal.at.balance_walk-w-requires c).After-body_of-body)
 
 pub overflow_add-lowest : goal.overflow_add-lowest
-overflow_add-lowest c = omega (arith, within_m (turn (goal.at.overflow_add-lowest c).After-body_of-body), c.if-w-count.true)
+overflow_add-lowest c =
+    let t = turn (goal.at.overflow_add-lowest c).After-body_of-body in
+    omega (arith, within_m t, below_count t _ c.balance_walk-w.ensures c.in-Some.is)
 
-pub loop-t-preserved-then-w-count : goal.loop-t-preserved-then-w-count
-loop-t-preserved-then-w-count c =
-    lower (turn (goal.at.loop-t-preserved-then-w-count c).After-body_of-body) _ c.balance_walk-w.ensures c.if-w-count.true
+pub loop-t-preserved-in-Some : goal.loop-t-preserved-in-Some
+loop-t-preserved-in-Some c =
+    lower (turn (goal.at.loop-t-preserved-in-Some c).After-body_of-body) _ c.balance_walk-w.ensures c.in-Some.is
 
 pub loop-t-preserved : goal.loop-t-preserved
 loop-t-preserved c =
-    same (turn (goal.at.loop-t-preserved c).After-body_of-body) _ c.balance_walk-w.ensures c.if-w-count.false
+    same (turn (goal.at.loop-t-preserved c).After-body_of-body) _ c.balance_walk-w.ensures c.in_default.is
 
-pub returns-then-lowest-m : goal.returns-then-lowest-m
-returns-then-lowest-m c =
-    ends c.loop-t.invariant c.loop-t-test.false
-    (c.refuse.ensures ∙ rw (lt-ltb _ _ c.if-lowest-m.true))
+pub overflow_cast-a : goal.overflow_cast-a
+overflow_cast-a c = omega (arith, c.loop-t.invariant.inside _ c.in-Some-lowest.is, c.loop-t.invariant.sizes)
 
-pub returns : goal.returns
-returns c =
-    ends c.loop-t.invariant c.loop-t-test.false
-    (rw (le-ltb _ _ c.if-lowest-m.false))
+pub returns-in-Some-lowest : goal.returns-in-Some-lowest
+returns-in-Some-lowest c = ends c.loop-t.invariant c.loop-t-test.false (ap Err c.new.ensures ∙ rw c.in-Some-lowest.is)
+
+pub returns-in-None : goal.returns-in-None
+returns-in-None c = ends c.loop-t.invariant c.loop-t-test.false (rw c.in-None.is)

@@ -1,21 +1,17 @@
--- `checks::balance::child_amount` meets its contract: a code below 6 is told by its kind.
+-- `checks::balance::child_amount` meets its contract.
 use native.Mathlib.Omega.{arith}
-use borrow.Author.Tests.{eq-eqb, ne_eqb}
-use Rattle.table.specs.Format.{kind_of}
-use Rattle.table.proofs.Walks.{is_code}
+use Rattle.table.specs.declared.kinds.Kind.TheVariants.{Join as join}
+use Rattle.table.proofs.Tests.{same_is, other_is}
 use Rattle.checks.proofs.balance.child_amount.Goals as goal
 
 pub offset_bounds-amounts-x : goal.offset_bounds-amounts-x
-offset_bounds-amounts-x c = omega (arith, c.requires c.if-k-eq-JOIN.true)
+offset_bounds-amounts-x c = omega (arith, c.requires c.in-Join.is)
 
 pub bounds-amounts-x : goal.bounds-amounts-x
-bounds-amounts-x c = c.requires c.if-k-eq-JOIN.true
+bounds-amounts-x c = c.requires c.in-Join.is
 
-pub returns-then-k-eq-JOIN : goal.returns-then-k-eq-JOIN
-unfolding kind_of
-returns-then-k-eq-JOIN c =
-    rw (is_code 5 c.args.k (omega arith), eq-eqb c.args.k 5 c.if-k-eq-JOIN.true)
+pub returns-in-Join : goal.returns-in-Join
+returns-in-Join c = rw (same_is join _ c.in-Join.is)
 
-pub returns-else-k-eq-JOIN : goal.returns-else-k-eq-JOIN
-unfolding kind_of
-returns-else-k-eq-JOIN c = rw (is_code 5 c.args.k (omega arith), ne_eqb c.args.k 5 c.if-k-eq-JOIN.false)
+pub returns-in_default : goal.returns-in_default
+returns-in_default c = rw (other_is join _ c.in_default.not-Join)

@@ -1,5 +1,5 @@
 use Rattle.std.specs.Prelude.{Err, Ok}
-use mathlib.Core.Path.{◌≡◌, refl, sym, ◌∙◌}
+use mathlib.Core.Path.{◌≡◌, refl, sym, ap, ◌∙◌}
 use Prim.Native.Nat.{ℕ, ◌+◌, ◌<◌, ◌≤◌}
 use mathlib.Core.List.{List}
 use mathlib.Core.Bool.{true, false, not, ◌||◌}
@@ -70,7 +70,7 @@ loop-t-init c = start c.requires
 
 pub returns-then-entry_wrong : goal.returns-then-entry_wrong
 returns-then-entry_wrong c =
-    c.refuse.ensures
+    ap Err c.new.ensures
     ∙ stops c.loop-t.invariant c.loop-t-test.true c.first-first.ensures.value c.count-count.ensures.value
     (sym c.entry_wrong.ensures ∙ c.if-entry_wrong.true)
 
@@ -85,7 +85,7 @@ loop-t-preserved c =
 
 pub returns-then-sum-m : goal.returns-then-sum-m
 returns-then-sum-m c =
-    c.refuse-then-sum-m.ensures ∙ unequal c.loop-t.invariant c.loop-t-test.false c.if-sum-m.true
+    ap Err c.new-then-sum-m.ensures ∙ unequal c.loop-t.invariant c.loop-t-test.false c.if-sum-m.true
 
 pub returns : goal.returns
 returns c =

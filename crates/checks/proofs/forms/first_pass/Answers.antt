@@ -1,6 +1,6 @@
-use Rattle.std.specs.Prelude.{Err, Ok}
+use Rattle.std.specs.Prelude.{Err, Ok, None, Some, Option}
 use mathlib.Core.Path.{◌≡◌, refl, sym, ap, ◌∙◌}
-use Prim.Native.Nat.{ℕ, zero, suc, pred, ◌+◌, ◌<◌}
+use Prim.Native.Nat.{ℕ, pred, ◌+◌, ◌<◌}
 use mathlib.Core.List.{List}
 use mathlib.Core.Bool.{Bool, true, false, not}
 use native.Mathlib.Omega.{arith}
@@ -22,7 +22,7 @@ use Rattle.table.proofs.Parts.{bodies_from_lem, bodies_length}
 use Rattle.checks.proofs.forms.first_pass.Invariants.{Inv}
 use Rattle.checks.proofs.forms.first_pass.Goals as goal
 
-numbered : (b d e : Bool) (a : ℕ) → pick b (Err (refusal 5 a)) (pick d (Err (refusal 6 a)) (pick e (Err (refusal 7 a)) (Ok tt))) ≡ found_at (pick b 5 (pick d 6 (pick e 7 0))) a
+numbered : (b d e : Bool) (a : ℕ) → pick b (Err (refusal 5 a)) (pick d (Err (refusal 6 a)) (pick e (Err (refusal 7 a)) (Ok tt))) ≡ found_at (pick b (Some 5) (pick d (Some 6) (pick e (Some 7) None))) a
 numbered true d e a = refl
 numbered false true e a = refl
 numbered false false true a = refl
@@ -67,20 +67,16 @@ start {s} {actions} {n = n} {m = m} l b e =
       remains = rw l.headed.actions (try_from_all _ _);
     }
 
-number_at : (k a : ℕ) → (k ≡ 0 → ⊥) → found_at k a ≡ Err (refusal k a)
-number_at zero a h = absurd (h refl)
-number_at (suc k) a h = refl
-
-module _ {s actions : List ℕ} {n m own stop own' stop' a k x number : ℕ} (i : Inv s actions n m own stop a) (h : a < m) (g : Holding (table_of s) own' stop' a)
-    (ek : k ≡ code_at actions a) (ex : x ≡ argument_at actions a) (en : number ≡ form_at (kind_of k) own' n x (eqb (a + 1) stop')) where
+module _ {s actions : List ℕ} {n m own stop own' stop' a x : ℕ} {k : Kind} {number : Option ℕ} (i : Inv s actions n m own stop a) (h : a < m) (g : Holding (table_of s) own' stop' a)
+    (ek : k ≡ kind_of (code_at actions a)) (ex : x ≡ argument_at actions a) (en : number ≡ form_at k own' n x (eqb (a + 1) stop')) where
   found : try_at (first_pass (table_of s)).checks a ≡ found_at number a
   unfolding table_of
   found = rw (en, ek, ex, i.part) (formed s n m own' stop' a i.laid g)
 
-  stops : (number ≡ 0 → ⊥) → Err (refusal number a) ≡ try_pass (first_pass (table_of s))
-  stops w = sym (try_from_here (first_pass (table_of s)).checks a m h (refusal number a) (found ∙ number_at number a w)) ∙ i.remains
+  stops : {r : ℕ} → number ≡ Some r → Err (refusal r a) ≡ try_pass (first_pass (table_of s))
+  stops {r} w = sym (try_from_here (first_pass (table_of s)).checks a m h (refusal r a) (found ∙ ap (λ z. found_at z a) w)) ∙ i.remains
 
-  again : number ≡ 0 → Inv s actions n m own' stop' (a + 1)
+  again : number ≡ None → Inv s actions n m own' stop' (a + 1)
   unfolding table_of
   again w =
       record {
@@ -102,25 +98,22 @@ module _ {s actions : List ℕ} {n m own stop own' stop' a k x number : ℕ} (i 
 pub loop-a-init : goal.loop-a-init
 loop-a-init c =
     let i = start c.requires c.bodies-actions.ensures c.count.ensures.value in
-    (i, c.lesser-stop.ensures ∙ min-eq_left (omega (arith, i.size)))
+    (i, c.min-stop.ensures ∙ min-eq_left (omega (arith, i.size)))
 
 pub span_at-span-requires : goal.span_at-span-requires
 span_at-span-requires c = let i = c.loop-a.invariant in record { laid = i.0.laid; reached = i.0.reached (omega (arith, i.1, c.loop-a-test.true)) }
 
-pub returns-then-number-ne0 : goal.returns-then-number-ne0
-returns-then-number-ne0 c =
-    c.refuse.ensures
+pub returns-in-Some : goal.returns-in-Some
+returns-in-Some c =
+    ap Err c.new.ensures
     ∙ stops c.loop-a.invariant.0 (omega (arith, c.loop-a.invariant.1, c.loop-a-test.true)) c.span_at-span.ensures
-    c.action_in-action.ensures.code_value c.action_in-action.ensures.read.value c.form_at-number.ensures c.if-number-ne0.true
-
-pub overflow_add-a : goal.overflow_add-a
-overflow_add-a c = omega arith
+    (c.kind.ensures ∙ ap kind_of c.action_in-action.ensures.code_value) c.action_in-action.ensures.read.value c.form_at-broken.ensures c.in-Some.is
 
 pub loop-a-preserved : goal.loop-a-preserved
 loop-a-preserved c =
     let i = c.loop-a.invariant in (
-      again i.0 (omega (arith, i.1, c.loop-a-test.true)) c.span_at-span.ensures c.action_in-action.ensures.code_value c.action_in-action.ensures.read.value
-          c.form_at-number.ensures c.if-number-ne0.false,
+      again i.0 (omega (arith, i.1, c.loop-a-test.true)) c.span_at-span.ensures (c.kind.ensures ∙ ap kind_of c.action_in-action.ensures.code_value) c.action_in-action.ensures.read.value
+          c.form_at-broken.ensures c.in_default.is,
       i.1,
     )
 

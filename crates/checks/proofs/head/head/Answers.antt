@@ -1,6 +1,6 @@
 -- `checks::head::head` meets its contract: each way out is the first of the three checks that applies.
 use Rattle.std.specs.Prelude.{Err, Ok}
-use mathlib.Core.Path.{◌≡◌, sym, ◌∙◌}
+use mathlib.Core.Path.{◌≡◌, sym, ◌∙◌, ap}
 use Prim.Native.Nat.{ℕ, ◌+◌, ◌*◌, ◌<◌, ◌≤◌}
 use mathlib.Core.List.{List}
 use mathlib.Core.Bool.{true, false, ◌||◌}
@@ -30,16 +30,16 @@ module _ (s : List ℕ) where
     passed h k = simp (le-ltb _ _ long, ← e, ← d, h, eq-eqb _ _ k)
 
 pub returns-then-table-lt4 : goal.returns-then-table-lt4
-returns-then-table-lt4 c = c.refuse.ensures ∙ sym (short c.args.table.now c.if-table-lt4.true)
+returns-then-table-lt4 c = ap Err c.new.ensures ∙ sym (short c.args.table.now c.if-table-lt4.true)
 
 pub returns-then-out_of_range : goal.returns-then-out_of_range
 returns-then-out_of_range c =
-    c.refuse-then-out_of_range.ensures ∙ sym (ranged c.args.table.now _ _ c.if-table-lt4.false c.threads-n.ensures.value c.actions-m.ensures.value
+    ap Err c.new-then-out_of_range.ensures ∙ sym (ranged c.args.table.now _ _ c.if-table-lt4.false c.threads-n.ensures.value c.actions-m.ensures.value
     (sym c.out_of_range.ensures ∙ c.if-out_of_range.true))
 
 pub returns-then-table-n : goal.returns-then-table-n
 returns-then-table-n c =
-    c.refuse-then-table-n.ensures ∙ sym (sized c.args.table.now _ _ c.if-table-lt4.false c.threads-n.ensures.value c.actions-m.ensures.value
+    ap Err c.new-then-table-n.ensures ∙ sym (sized c.args.table.now _ _ c.if-table-lt4.false c.threads-n.ensures.value c.actions-m.ensures.value
     (sym c.out_of_range.ensures ∙ c.if-out_of_range.false)
     c.if-table-n.true)
 

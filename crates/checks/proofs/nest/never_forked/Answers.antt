@@ -1,5 +1,5 @@
 use Rattle.std.specs.Prelude.{Err, Ok}
-use mathlib.Core.Path.{◌≡◌, sym, ◌∙◌}
+use mathlib.Core.Path.{◌≡◌, sym, ap, ◌∙◌}
 use Prim.Native.Nat.{ℕ, pred, ◌+◌, ◌-◌, ◌<◌, ◌≤◌}
 use mathlib.Core.List.{List, [], ◌∷◌}
 use mathlib.Core.Bool.{Bool, true, false, not}
@@ -37,12 +37,12 @@ loop-t-init c = start _ c.args.forked.now c.requires
 pub bounds-forked-t : goal.bounds-forked-t
 bounds-forked-t c = omega arith
 
-pub refuse-requires : goal.refuse-requires
-refuse-requires c = omega arith
+pub overflow_cast-t : goal.overflow_cast-t
+overflow_cast-t c = omega arith
 
 pub returns-then-not-forked-t : goal.returns-then-not-forked-t
 returns-then-not-forked-t c =
-    c.refuse.ensures ∙ stops c.loop-t.invariant c.loop-t-test.true (rw c.if-not-forked-t.true)
+    ap Err c.new.ensures ∙ stops c.loop-t.invariant c.loop-t-test.true (rw c.if-not-forked-t.true)
 
 pub loop-t-preserved : goal.loop-t-preserved
 loop-t-preserved c =

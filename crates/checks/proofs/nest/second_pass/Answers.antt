@@ -1,6 +1,5 @@
-use Rattle.std.specs.Prelude.{Err, Ok, Result, ⊤}
-use Rattle.table.specs.declared.Refusal.{Refusal}
-use mathlib.Core.Path.{◌≡◌, sym, ◌∙◌}
+use Rattle.std.specs.Prelude.{Err, Ok, None, Some, Option}
+use mathlib.Core.Path.{◌≡◌, refl, sym, ap, ◌∙◌}
 use Prim.Native.Nat.{ℕ, ◌+◌, ◌<◌, ◌≤◌}
 use mathlib.Core.List.{List}
 use mathlib.Core.Bool.{Bool, false}
@@ -8,11 +7,12 @@ use native.Mathlib.Omega.{arith}
 use native.Mathlib.Nat.{min-eq_left}
 use lib.ListN.{length, get_or, replicate, drop, length-drop, length-replicate, drop_of_length-le}
 use Rattle.table.specs.Format.{kind_of, table_of, kind, code_at, argument_at, actions_of, bodies_from, bodies_of}
+use Rattle.table.specs.declared.kinds.Kind.{Kind}
 use Rattle.table.specs.declared.kinds.Kind.TheVariants.{Fork as fork}
 use Rattle.table.specs.Pass.{try_pass, refusal}
 use Rattle.table.specs.Checks.{second_pass, forked_below}
 use Rattle.table.specs.Code.Steps.{Formed}
-use Rattle.checks.specs.Code.Steps.{nest, nest_at, NestReady, NestDone}
+use Rattle.checks.specs.Code.Steps.{nest, nest_at, broken, NestReady, NestDone}
 use Rattle.table.proofs.Tests.{no_way}
 use Rattle.table.proofs.Trying.{try_from_next, try_from_here, try_from_last, try_from_all}
 use Rattle.table.proofs.Sizes.{sizes}
@@ -41,8 +41,8 @@ start {s} {actions} {n} h b e =
     }
 
 module _ {s actions : List ℕ} {n m : ℕ} {forked : List Bool} {stack : List ℕ} {top a : ℕ} (i : Inv s actions n m forked stack top a) where
-  module _ (h : a < m) {k x : ℕ} (e : k ≡ code_at actions a) (d : x ≡ argument_at actions a) where
-    kind_is : kind_of k ≡ kind (table_of s) a
+  module _ (h : a < m) {k : Kind} {x : ℕ} (e : k ≡ kind_of (code_at actions a)) (d : x ≡ argument_at actions a) where
+    kind_is : k ≡ kind (table_of s) a
     unfolding table_of
     kind_is = rw (e, i.part)
 
@@ -56,7 +56,7 @@ module _ {s actions : List ℕ} {n m : ℕ} {forked : List Bool} {stack : List �
         let w : a < actions_of s = omega (arith, i.formed.laid.headed.actions) in
         omega (arith, fork_below_lem (table_of s) i.formed.laid.contents i.formed.bodies a w q, i.formed.laid.headed.threads, i.sizes.threads_high)
 
-    ready : NestReady (kind_of k) x top stack forked
+    ready : NestReady k x top stack forked
     ready =
         record {
           stacked = i.stacked;
@@ -68,14 +68,14 @@ module _ {s actions : List ℕ} {n m : ℕ} {forked : List Bool} {stack : List �
               omega (arith, length-drop top stack, i.stacked, i.low);
         }
 
-    module _ {number top' : ℕ} {stack' : List ℕ} {forked' : List Bool} (o : NestDone (kind_of k) x top stack forked number top' stack' forked') where
+    module _ {number : Option ℕ} {top' : ℕ} {stack' : List ℕ} {forked' : List Bool} (o : NestDone k x top stack forked number top' stack' forked') where
       done : nest number (drop top' stack') forked' ≡ nest_at (kind (table_of s) a) ((table_of s).argument a) (drop top stack) forked
       done = rw (kind_is, argument_is) at o.done
 
-      stops : (number ≡ 0 → ⊥) → Err (refusal number a) ≡ try_pass (second_pass (table_of s))
-      stops z = sym (try_from_here _ a m h (refusal number a) (stacked_stops _ _ _ _ i.before _ _ _ done z)) ∙ i.remains
+      stops : {n : ℕ} → number ≡ Some n → Err (refusal n a) ≡ try_pass (second_pass (table_of s))
+      stops {n} z = sym (try_from_here _ a m h (refusal n a) (stacked_stops _ _ _ _ i.before _ _ _ done z)) ∙ i.remains
 
-      again : number ≡ 0 → Inv s actions n m forked' stack' top' (a + 1)
+      again : number ≡ None → Inv s actions n m forked' stack' top' (a + 1)
       again z =
           record {
             sizes = i.sizes;
@@ -99,34 +99,35 @@ module _ {s actions : List ℕ} {n m : ℕ} {forked : List Bool} {stack : List �
     marks : (t : ℕ) → get_or forked t false ≡ forked_below (table_of s) m t
     marks t = rw last at (i.before.marks t)
 
-refused : {f : Result ⊤ Refusal} {number place : ℕ} {A : Type 0} → f ≡ Err (refusal number place) → f ≡ Ok tt → A
-refused e z = no_way cc
-
 pub loop-a-init : goal.loop-a-init
 loop-a-init c =
     let i = start c.requires.formed c.bodies-actions.ensures c.requires.forked_value in
-    (i, c.lesser-stop.ensures ∙ min-eq_left (omega (arith, i.size)))
+    (i, c.min-stop.ensures ∙ min-eq_left (omega (arith, i.size)))
 
 pub nest_at-next-requires : goal.nest_at-next-requires
 nest_at-next-requires c =
     let i = c.loop-a.invariant in
-    ready i.0 (omega (arith, i.1, c.loop-a-test.true)) c.action_in-action.ensures.code_value c.action_in-action.ensures.read.value
+    ready i.0 (omega (arith, i.1, c.loop-a-test.true)) (c.kind.ensures ∙ ap kind_of c.action_in-action.ensures.code_value) c.action_in-action.ensures.read.value
 
-pub refuse-requires : goal.refuse-requires
-refuse-requires c = omega (arith, c.loop-a.invariant.0.sizes)
+pub overflow_cast-a : goal.overflow_cast-a
+overflow_cast-a c = omega (arith, c.loop-a.invariant.0.sizes)
 
-pub returns-then-next-ne0 : goal.returns-then-next-ne0
-returns-then-next-ne0 c = record {
-  value = c.refuse.ensures
-      ∙ stops c.loop-a.invariant.0 (omega (arith, c.loop-a.invariant.1, c.loop-a-test.true)) c.action_in-action.ensures.code_value c.action_in-action.ensures.read.value
-      c.nest_at-next.ensures c.if-next-ne0.true;
-  false_after = refused c.refuse.ensures;
+pub returns-in-Err : goal.returns-in-Err
+returns-in-Err c = record {
+  value = ap Err c.new.ensures
+      ∙ stops c.loop-a.invariant.0 (omega (arith, c.loop-a.invariant.1, c.loop-a-test.true)) (c.kind.ensures ∙ ap kind_of c.action_in-action.ensures.code_value) c.action_in-action.ensures.read.value
+      c.nest_at-next.ensures (ap broken c.in-Err.is);
+  false_after = λ z. no_way (cc);
 }
 
 pub loop-a-preserved : goal.loop-a-preserved
 loop-a-preserved c =
     let i = c.loop-a.invariant in
-    (again i.0 (omega (arith, i.1, c.loop-a-test.true)) c.action_in-action.ensures.code_value c.action_in-action.ensures.read.value c.nest_at-next.ensures c.if-next-ne0.false, i.1)
+    let r = c.in-Ok.is in (
+      again i.0 (omega (arith, i.1, c.loop-a-test.true)) (c.kind.ensures ∙ ap kind_of c.action_in-action.ensures.code_value) c.action_in-action.ensures.read.value
+          (rw r at c.nest_at-next.ensures) refl,
+      i.1,
+    )
 
 pub returns : goal.returns
 returns c = let i = c.loop-a.invariant in record { value = none i.0 (omega (arith, i.1, c.loop-a-test.false)); false_after = λ e. marks i.0 (omega (arith, i.1, c.loop-a-test.false)) }

@@ -1,6 +1,5 @@
-use Rattle.std.specs.Prelude.{Err, Ok, Result, ⊤}
-use Rattle.table.specs.declared.Refusal.{Refusal}
-use mathlib.Core.Path.{◌≡◌, refl, sym, ◌∙◌}
+use Rattle.std.specs.Prelude.{Err, Ok}
+use mathlib.Core.Path.{◌≡◌, refl, sym, ap, ◌∙◌}
 use Prim.Native.Nat.{ℕ, suc, ◌+◌, ◌-◌, ◌*◌, ◌/◌, ◌≤◌, ◌<◌}
 use mathlib.Core.List.{List}
 use mathlib.Core.Bool.{Bool, true, false, ◌&&◌, ◌||◌}
@@ -14,7 +13,6 @@ use Rattle.table.specs.Checks.{alloc_of}
 use Rattle.table.specs.Pass.{refusal, try_at, try_pass}
 use Rattle.table.proofs.Tests.{or_neither}
 use Rattle.table.proofs.Trying.{try_from_next, try_from_here, try_from_last, try_from_all}
-use Rattle.filling.specs.declared.Total.{Total}
 use Rattle.filling.specs.Filled.{big, dummies, new_threads, new_actions, threads_to, actions_to, overfull, fill_pass}
 use Rattle.filling.specs.Filling.{total_of}
 use Rattle.filling.proofs.count.count.Invariants.{Inv, checks}
@@ -38,12 +36,12 @@ module _ (s : List ℕ) (K n m threads actions a x y z : ℕ) (i : Inv s K n m t
   full_is = rw (← threads_next, ← actions_next, ← e)
 
   module _ (h : a < m) where
-    stops : (ltb K x && (ltb 1024 (threads + y) || ltb 8192 (actions + z))) ≡ true → (f : Result ⊤ Refusal) → f ≡ Err (refusal 44 a)
-        → ◌≡◌ {A = Total} (record { found = f; threads = 0; actions = 0 }) (total_of T K)
+    stops : (ltb K x && (ltb 1024 (threads + y) || ltb 8192 (actions + z))) ≡ true
+        → Err (refusal 44 a) ≡ total_of T K
     unfolding try_at
-    stops w f q =
+    stops w =
         let t : try_pass (fill_pass T K) ≡ Err (refusal 44 a) = sym i.remains ∙ try_from_here (checks T K) a m h (refusal 44 a) (rw (full_is ∙ w)) in
-        rw (t, q)
+        rw t
 
     again : (ltb K x && (ltb 1024 (threads + y) || ltb 8192 (actions + z))) ≡ false → Inv s K n m (threads + y) (actions + z) (a + 1)
     unfolding try_at
@@ -86,7 +84,7 @@ start s K n m r q =
     }
 
 done : (s : List ℕ) (K n m threads actions a : ℕ) → Inv s K n m threads actions a → m ≤ a
-    → ◌≡◌ {A = Total} (record { found = Ok tt; threads = threads; actions = actions }) (total_of (table_of s) K)
+    → Ok (record { threads = threads; actions = actions }) ≡ total_of (table_of s) K
 done s K n m threads actions a i h =
     let t : try_pass (fill_pass (table_of s) K) ≡ (Ok tt) = sym i.remains ∙ try_from_last (checks (table_of s) K) a m (omega (arith, i.within)) in
     let e : a ≡ (table_of s).actions = omega (arith, i.within, i.is_actions) in
@@ -112,13 +110,13 @@ new_actions-actions-requires c = record { x_bound = c.amount-x.ensures.small; qu
 pub overflow_add-actions : goal.overflow_add-actions
 overflow_add-actions c = omega (arith, c.new_actions-actions.ensures.small, c.loop-a.invariant.actions_small)
 
-pub refuse-requires : goal.refuse-requires
-refuse-requires c = omega (arith, c.loop-a-test.true, c.loop-a.invariant.small)
+pub overflow_cast-a : goal.overflow_cast-a
+overflow_cast-a c = omega (arith, c.loop-a-test.true, c.loop-a.invariant.small)
 
 pub returns-then-is_full : goal.returns-then-is_full
 returns-then-is_full c =
-    stops _ _ _ _ _ _ _ _ _ _ c.loop-a.invariant c.amount-x.ensures.value c.new_threads-threads.ensures.value c.new_actions-actions.ensures.value
-    c.loop-a-test.true (sym c.is_full.ensures ∙ c.if-is_full.true) _ c.refuse.ensures
+    ap Err c.new.ensures ∙ stops _ _ _ _ _ _ _ _ _ _ c.loop-a.invariant c.amount-x.ensures.value c.new_threads-threads.ensures.value c.new_actions-actions.ensures.value
+    c.loop-a-test.true (sym c.is_full.ensures ∙ c.if-is_full.true)
 
 pub loop-a-preserved : goal.loop-a-preserved
 loop-a-preserved c =

@@ -25,7 +25,9 @@ long input out o K r h e p q =
     (rw (z, ← e) (rw w at p), rw (z, ← e) (rw w at q))
 
 pub returns-then-input-lt3 : goal.returns-then-input-lt3
-returns-then-input-lt3 c = let both = short c.args.input.now c.args.out.now c.if-input-lt3.true in record { value = both.0; out_after = both.1 }
+returns-then-input-lt3 c =
+    let both = short c.args.input.now c.args.out.now c.if-input-lt3.true in
+    record { value = rw c.new.ensures both.0; out_after = both.1 }
 
 pub returns : goal.returns
 returns c = let both = long c.args.input.now c.args.out.now _ _ _ c.if-input-lt3.false c.quota_in.ensures c.fill_whole.ensures.value c.fill_whole.ensures.out_after in record { value = both.0; out_after = both.1 }

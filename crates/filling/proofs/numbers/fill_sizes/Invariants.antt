@@ -1,6 +1,6 @@
 -- `filling::numbers::fill_sizes` meets its contract. The invariant: the sizes of the children of the new threads below c are there, and with the roots' they are all that is needed.
 use mathlib.Core.Path.{◌≡◌}
-use Prim.Native.Nat.{ℕ, ◌-◌, ◌≤◌}
+use Prim.Native.Nat.{ℕ, ◌≤◌}
 use mathlib.Core.List.{List}
 use Rattle.table.specs.Format.{table_of}
 use Rattle.filling.specs.Filled.{threads_to}

@@ -1,6 +1,6 @@
 -- `filling::numbers::fill_starts` meets its contract. The invariant: the starts of the threads forked below a, the sizes at the roots of the big allocs below a, and the place of a.
 use mathlib.Core.Path.{◌≡◌}
-use Prim.Native.Nat.{ℕ, ◌-◌, ◌≤◌, ◌<◌}
+use Prim.Native.Nat.{ℕ, ◌≤◌, ◌<◌}
 use mathlib.Core.List.{List}
 use Rattle.table.specs.Format.{table_of}
 use Rattle.filling.specs.Code.Steps.{Ready, Sums, RootsTo, Starts, At}

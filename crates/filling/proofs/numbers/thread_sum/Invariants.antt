@@ -1,6 +1,6 @@
 -- `filling::numbers::thread_sum` meets its contract. The invariant: what is counted is what the actions before k lead to.
 use mathlib.Core.Path.{◌≡◌}
-use Prim.Native.Nat.{ℕ, ◌+◌, ◌-◌, ◌≤◌, ◌<◌}
+use Prim.Native.Nat.{ℕ, ◌+◌, ◌≤◌, ◌<◌}
 use mathlib.Core.List.{List}
 use Rattle.table.specs.Format.{table_of}
 use Rattle.table.proofs.Amounts.{fork_part}

@@ -1,6 +1,6 @@
 -- `filling::puts::put_entries` meets its contract. The invariant: the entries of the threads from c on are what is left, and their first action is the next.
 use mathlib.Core.Path.{◌≡◌}
-use Prim.Native.Nat.{ℕ, ◌+◌, ◌-◌, ◌≤◌}
+use Prim.Native.Nat.{ℕ, ◌+◌, ◌≤◌}
 use mathlib.Core.List.{List, flatten}
 use lib.ListN.{length, drop}
 use Rattle.rows.proofs.Rest.{Rest}

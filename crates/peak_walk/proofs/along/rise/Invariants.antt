@@ -1,6 +1,5 @@
 -- `peak_walk::along::rise` meets its contract. The invariant: the greatest of the places before a, and what was drawn and given back since the last resting place.
-use Rattle.peak_walk.proofs.Readings.{up_fits, down_fits, alloc_read, free_read, rests_read, since_next, greatest_more, rise_whole}
-use Rattle.std.proofs.Common.{◌≡◌, ◌-◌, ◌≤◌, refl, ◌∙◌, arith, rules}
+use Rattle.std.proofs.Common.{◌≡◌, ◌-◌, ◌≤◌}
 use Rattle.table.specs.Sum.{greatest_to}
 use Rattle.table.specs.Format.{table_of}
 use Rattle.table.specs.Checks.{alloc_of, free_of}

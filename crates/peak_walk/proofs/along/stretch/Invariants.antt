@@ -1,9 +1,8 @@
 -- `peak_walk::along::stretch` meets its contract. The invariant: the greatest of the actions before a, and what the stretch of a has drawn before a.
-use Rattle.peak_walk.proofs.Readings.{drawn_fits, kind_read, alloc_read, drawn_read, drawn_next, greatest_more, stretch_whole}
-use Rattle.std.proofs.Common.{◌≡◌, ◌+◌, ◌-◌, ◌≤◌, refl, arith, rules}
+use Rattle.std.proofs.Common.{◌≡◌, ◌+◌, ◌≤◌}
 use Rattle.table.specs.Sum.{greatest_to}
 use Rattle.table.specs.Format.{table_of}
-use Rattle.peaks.specs.Rests.{drawn_at, drawn_before, stretch}
+use Rattle.peaks.specs.Rests.{drawn_at, drawn_before}
 use Rattle.peak_walk.proofs.along.stretch.Given as goal
 
 abbrev pub invariant-loop-a : goal.invariant-loop-a

@@ -7,9 +7,6 @@ use Rattle.peak_walk.proofs.fill.fill_load.Goals as goal
 pub loop-t-init : goal.loop-t-init
 loop-t-init c = (omega arith, c.requires.right)
 
-pub overflow_sub-t : goal.overflow_sub-t
-overflow_sub-t c = omega (arith, c.loop-t-test.true)
-
 pub walk_body-w-requires : goal.walk_body-w-requires
 walk_body-w-requires c = c.requires.accepted.1
 
@@ -18,9 +15,6 @@ overflow_mul-t c = omega (arith, few c.requires.accepted.0, c.loop-t.invariant.0
 
 pub overflow_add-t : goal.overflow_add-t
 overflow_add-t c = omega (arith, few c.requires.accepted.0, c.loop-t.invariant.0, c.requires.accepted.1)
-
-pub loop-t-smaller : goal.loop-t-smaller
-loop-t-smaller c = omega (arith, c.loop-t-test.true)
 
 pub loop-t-preserved : goal.loop-t-preserved
 loop-t-preserved c =

@@ -7,6 +7,3 @@ use Rattle.peak_walk.proofs.fill.fill_load.Given as goal
 
 abbrev pub invariant-loop-t : goal.invariant-loop-t
 invariant-loop-t l = (l.t ≤ l.n) × Right (table_of l.table) l.resting l.peaks l.finals l.rows l.r l.t
-
-abbrev pub decreases-loop-t : goal.decreases-loop-t
-decreases-loop-t l = l.t

@@ -10,6 +10,3 @@ use Rattle.peak_walk.proofs.fill.peak_of.Given as goal
 
 abbrev pub invariant-loop-r : goal.invariant-loop-r
 invariant-loop-r l = (l.r ≤ suc l.load) × Right (table_of l.table) l.resting l.peaks l.finals l.rows l.r l.n
-
-abbrev pub decreases-loop-r : goal.decreases-loop-r
-decreases-loop-r l = suc l.load - l.r

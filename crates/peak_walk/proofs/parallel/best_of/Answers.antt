@@ -1,4 +1,4 @@
-use Rattle.std.proofs.Common.{◌≡◌, suc, ◌-◌, ◌≤◌, sym, ◌∙◌, subst, arith, rules}
+use Rattle.std.proofs.Common.{◌≡◌, suc, ◌-◌, sym, ◌∙◌, subst, arith}
 use Rattle.table.specs.Format.{table_of}
 use Rattle.peak_walk.specs.Code.Parallel.{Bests}
 use Rattle.peak_walk.proofs.PassedDown.{passed_down, root_best}
@@ -6,9 +6,6 @@ use Rattle.peak_walk.proofs.parallel.best_of.Goals as goal
 
 pub loop-t-init : goal.loop-t-init
 loop-t-init c = (omega arith, c.requires.bests)
-
-pub overflow_sub-t : goal.overflow_sub-t
-overflow_sub-t c = omega (arith, c.loop-t-test.true)
 
 pub loop-t-preserved : goal.loop-t-preserved
 loop-t-preserved c =

@@ -1,5 +1,6 @@
-use Rattle.std.proofs.Common.{◌≡◌, ℕ, ◌+◌, ◌-◌, ◌≤◌, List, refl, ◌∙◌, add-one, arith, rules}
+use Rattle.std.proofs.Common.{◌≡◌, ℕ, ◌+◌, List, refl, ◌∙◌, add-one, arith}
 use Rattle.table.specs.Format.{kind_of, code_at, argument_at, bodies_from}
+use Rattle.peak_walk.proofs.Readings.{read_code, read_argument}
 use Rattle.peak_walk.specs.Code.Parallel.{Passed, pass, passed_on, passed}
 use Rattle.peak_walk.proofs.parallel.pass_body.Goals as goal
 
@@ -13,15 +14,16 @@ pub loop-i-init : goal.loop-i-init
 unfolding passed
 loop-i-init c = (omega arith, refl)
 
-pub overflow_add-a : goal.overflow_add-a
-overflow_add-a c = omega (arith, c.first-first.ensures.small, c.count-count.ensures.small, c.loop-i-test.true)
+pub overflow_add-first : goal.overflow_add-first
+overflow_add-first c = omega (arith, c.first-first.ensures.small, c.count-count.ensures.small, c.loop-i-test.true)
 
 pub loop-i-preserved : goal.loop-i-preserved
 loop-i-preserved c =
     let a = c.args in (
       omega (arith, c.loop-i-test.true),
       again (code_at (bodies_from a.table.now a.n)) (argument_at (bodies_from a.table.now a.n)) a.bests.now a.finals.now c.first-first.result c.loop-i.i
-          (pass c.loop-i.w.balance c.loop-i.w.children c.loop-i.w.most) _ c.code-k.result c.argument-x.result c.loop-i.invariant.1 c.code-k.ensures c.argument-x.ensures.value c.pass_on-w.ensures,
+          (pass c.loop-i.w.balance c.loop-i.w.children c.loop-i.w.most) _ c.action_in-action.result.code c.action_in-action.result.argument c.loop-i.invariant.1
+          (read_code _ a.table.now a.n _ c.bodies-actions.ensures c.action_in-action.ensures.code_value) (read_argument _ a.table.now a.n _ c.bodies-actions.ensures c.action_in-action.ensures.read.value) c.pass_on-w.ensures,
     )
 
 pub returns : goal.returns

@@ -1,7 +1,7 @@
 -- `peak_walk::parallel::pass_body` meets its contract. The invariant: what is reached is the walk over the actions before i.
-use Rattle.std.proofs.Common.{◌≡◌, ℕ, ◌+◌, ◌-◌, ◌≤◌, List, refl, ◌∙◌, add-one, arith, rules}
-use Rattle.table.specs.Format.{kind_of, code_at, argument_at, bodies_from}
-use Rattle.peak_walk.specs.Code.Parallel.{Passed, pass, passed_on, passed}
+use Rattle.std.proofs.Common.{◌≡◌, ◌≤◌}
+use Rattle.table.specs.Format.{code_at, argument_at, bodies_from}
+use Rattle.peak_walk.specs.Code.Parallel.{pass, passed}
 use Rattle.peak_walk.proofs.parallel.pass_body.Given as goal
 
 abbrev pub invariant-loop-i : goal.invariant-loop-i

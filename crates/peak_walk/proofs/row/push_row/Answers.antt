@@ -24,12 +24,6 @@ overflow_mul-d c = omega (arith, c.loop-j.invariant.1.depth)
 pub overflow_add-d-in-loop-j : goal.overflow_add-d-in-loop-j
 overflow_add-d-in-loop-j c = omega (arith, c.loop-j.invariant.1.depth, c.loop-j.invariant.1.load, c.loop-j-test.true)
 
-pub overflow_add-j : goal.overflow_add-j
-overflow_add-j c = omega (arith, c.loop-j.invariant.1.load, c.loop-j-test.true)
-
-pub loop-j-smaller : goal.loop-j-smaller
-loop-j-smaller c = omega (arith, c.loop-j-test.true)
-
 pub loop-j-preserved : goal.loop-j-preserved
 loop-j-preserved c =
     let g = c.args in (
@@ -43,7 +37,8 @@ shape_of-rows c =
     let g = c.args in
     ap length c.loop-j.invariant.2 ∙ pushed_length g.peaks.now g.finals.now g.r g.c g.d g.rows.now c.loop-j.j
 
-pub returns : goal.returns
-returns c =
-    let z : c.loop-j.j ≡ suc c.args.r = omega (arith, c.loop-j.invariant.0, c.loop-j-test.false) in
-    rw z at c.loop-j.invariant.2
+pub returns-2 : goal.returns-2
+returns-2 c =
+    let g = c.args in
+    let z : c.loop-j.j + 1 ≡ suc g.r = omega arith in
+    rw z at (again g.peaks.now g.finals.now g.rows.now g.r g.c g.d c.loop-j.j c.loop-j.rows _ c.row_value-v.result c.loop-j.invariant.2 c.row_value-v.ensures c.put.ensures)

@@ -6,6 +6,3 @@ use Rattle.peak_walk.proofs.row.push_row.Given as goal
 
 abbrev pub invariant-loop-j : goal.invariant-loop-j
 invariant-loop-j l = (l.j ≤ suc l.r) × Small l.r l.c l.d × (l.rows ≡ pushed l.peaks l.finals l.r l.c l.d l.initial.rows l.j)
-
-abbrev pub decreases-loop-j : goal.decreases-loop-j
-decreases-loop-j l = suc l.r - l.j

@@ -1,6 +1,6 @@
-use Rattle.std.proofs.Common.{◌≡◌, ℕ, suc, ◌+◌, ◌-◌, ◌*◌, ◌≤◌, max, List, get_or, refl, ◌∙◌, add-one, arith, rules}
+use Rattle.std.proofs.Common.{◌≡◌, ℕ, suc, ◌+◌, ◌*◌, max, List, get_or, refl, ◌∙◌, add-one, arith}
 use Rattle.table.specs.Sum.{greatest_to}
-use Rattle.peak_walk.specs.Code.Walk.{Small, slot}
+use Rattle.peak_walk.specs.Code.Walk.{slot}
 use Rattle.peak_walk.proofs.row.row_greatest.Goals as goal
 
 again : (rows : List ℕ) (d j best x v : ℕ) → best ≡ greatest_to (λ i. get_or rows (slot d i) 0) j → x ≡ get_or rows (17 * d + j) 0 → v ≡ max best x
@@ -18,21 +18,16 @@ overflow_mul-d c = omega (arith, c.loop-j.invariant.1.depth)
 pub overflow_add-d : goal.overflow_add-d
 overflow_add-d c = omega (arith, c.loop-j.invariant.1.depth, c.loop-j.invariant.1.load, c.loop-j-test.true)
 
-pub overflow_add-j : goal.overflow_add-j
-overflow_add-j c = omega (arith, c.loop-j.invariant.1.load, c.loop-j-test.true)
-
-pub loop-j-smaller : goal.loop-j-smaller
-loop-j-smaller c = omega (arith, c.loop-j-test.true)
-
 pub loop-j-preserved : goal.loop-j-preserved
 loop-j-preserved c =
     let g = c.args in (
       omega (arith, c.loop-j-test.true),
       c.loop-j.invariant.1,
-      again g.rows.now g.d c.loop-j.j c.loop-j.best c.number.result c.larger-best.result c.loop-j.invariant.2 c.number.ensures c.larger-best.ensures,
+      again g.rows.now g.d c.loop-j.j c.loop-j.best c.number.result c.max-best.result c.loop-j.invariant.2 c.number.ensures c.max-best.ensures,
     )
 
-pub returns : goal.returns
-returns c =
-    let z : c.loop-j.j ≡ suc c.args.r = omega (arith, c.loop-j.invariant.0, c.loop-j-test.false) in
-    rw z at c.loop-j.invariant.2
+pub returns-2 : goal.returns-2
+returns-2 c =
+    let g = c.args in
+    let z : c.loop-j.j + 1 ≡ suc g.r = omega arith in
+    rw z at (again g.rows.now g.d c.loop-j.j c.loop-j.best c.number.result c.max-best.result c.loop-j.invariant.2 c.number.ensures c.max-best.ensures)

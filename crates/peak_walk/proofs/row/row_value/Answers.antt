@@ -1,5 +1,5 @@
 -- `peak_walk::rows::row_value` meets its contract.
-use Rattle.std.proofs.Common.{◌≡◌, ℕ, suc, ◌+◌, ◌-◌, ◌*◌, ◌%◌, ◌^◌, max, List, get_or, ap, ◌∙◌, arith, rules}
+use Rattle.std.proofs.Common.{refl, ◌≡◌, ℕ, suc, ◌+◌, ◌-◌, ◌*◌, ◌%◌, ◌^◌, max, List, get_or, ap, ◌∙◌, arith, rules}
 use Rattle.peak_walk.specs.Code.Walk.{slot, cut, row_value}
 use Rattle.peak_walk.proofs.row.row_value.Goals as goal
 
@@ -22,12 +22,12 @@ module _ (peaks finals rows : List ℕ) (r c d j a b over : ℕ) (e : a ≡ get_
 pub returns-then-j-eq0 : goal.returns-then-j-eq0
 returns-then-j-eq0 c =
     let g = c.args in
-    at_zero g.peaks.now g.finals.now g.rows.now g.r g.c g.d g.j c.number.result c.number-2.result c.wrapping_add_u64-over.result
-    c.number.ensures c.number-2.ensures c.wrapping_add_u64-over.ensures.value c.if-j-eq0.true
+    at_zero g.peaks.now g.finals.now g.rows.now g.r g.c g.d g.j c.number.result c.number-2.result _
+    c.number.ensures c.number-2.ensures refl c.if-j-eq0.true
 
 pub returns : goal.returns
 returns c =
     let g = c.args in
-    above g.peaks.now g.finals.now g.rows.now g.r g.c g.d g.j c.number.result c.number-2.result c.wrapping_add_u64-over.result
-    c.number.ensures c.number-2.ensures c.wrapping_add_u64-over.ensures.value c.if-j-eq0.false c.number-unended.result c.number-3.result c.wrapping_add_u64.result c.larger.result
-    c.number-unended.ensures c.number-3.ensures c.wrapping_add_u64.ensures.value c.larger.ensures
+    above g.peaks.now g.finals.now g.rows.now g.r g.c g.d g.j c.number.result c.number-2.result _
+    c.number.ensures c.number-2.ensures refl c.if-j-eq0.false c.number-unended.result c.number-3.result _ c.max.result
+    c.number-unended.ensures c.number-3.ensures refl c.max.ensures

@@ -1,6 +1,7 @@
 use Rattle.std.proofs.Common.{◌≡◌, ℕ, ◌+◌, ◌-◌, ◌≤◌, Bool, List, length, refl, ap, ◌∙◌, add-one, arith, rules}
 use Rattle.table.specs.Format.{kind_of, code_at, argument_at, bodies_from}
 use Rattle.peak_walk.specs.Code.Walk.{Walked, walk, stepped, may_after, walked}
+use Rattle.peak_walk.proofs.Readings.{read_code, read_argument, may_in}
 use Rattle.peak_walk.proofs.Steps.{walked_depth, walked_length}
 use Rattle.peak_walk.proofs.walk.walk_body.Goals as goal
 
@@ -25,7 +26,7 @@ step-w-requires c =
     let a = c.args in
     record {
       load = c.requires;
-      child = c.argument-x.ensures.small;
+      child = c.action_in-action.ensures.read.small;
       depth =
           omega (
             arith,
@@ -42,8 +43,9 @@ loop-i-preserved c =
     let a = c.args in (
       omega (arith, c.loop-i-test.true),
       again (code_at (bodies_from a.table.now a.n)) (argument_at (bodies_from a.table.now a.n)) a.resting a.peaks.now a.finals.now a.r c.first-first.result
-          a.rows.now c.loop-i.i (walk c.loop-i.w.balance c.loop-i.w.best c.loop-i.w.depth c.loop-i.rows) _ c.may_after-may.result c.code-k.result c.argument-x.result c.loop-i.invariant.1
-          c.may_after-may.ensures c.code-k.ensures c.argument-x.ensures.value c.step-w.ensures,
+          a.rows.now c.loop-i.i (walk c.loop-i.w.balance c.loop-i.w.best c.loop-i.w.depth c.loop-i.rows) _ c.may_after-may.result c.action_in-action.result.code c.action_in-action.result.argument c.loop-i.invariant.1
+          (may_in _ a.table.now a.n _ _ _ c.bodies-actions.ensures c.may_after-may.ensures) (read_code _ a.table.now a.n _ c.bodies-actions.ensures c.action_in-action.ensures.code_value)
+          (read_argument _ a.table.now a.n _ c.bodies-actions.ensures c.action_in-action.ensures.read.value) c.step-w.ensures,
     )
 
 pub shape_of-rows : goal.shape_of-rows

@@ -1,6 +1,6 @@
 -- `quota::line::answer_to` meets its contract: what follows the thirteen bytes is the table.
 use Rattle.std.specs.Prelude.{Err}
-use mathlib.Core.Path.{◌≡◌, ◌∙◌}
+use mathlib.Core.Path.{◌≡◌, ap, ◌∙◌}
 use Prim.Native.Nat.{ℕ, ◌-◌, ◌≤◌, ◌<◌}
 use mathlib.Core.List.{List}
 use borrow.Author.Tests.{lt-ltb, le-ltb}
@@ -21,7 +21,7 @@ module _ (s : List ℕ) where
   whole h ep eb eM = rw (le-ltb (length s) 13 h, ep, eb, eM, rest_part s 13)
 
 pub returns-then-input-lt13 : goal.returns-then-input-lt13
-returns-then-input-lt13 c = c.refuse.ensures ∙ short _ c.if-input-lt13.true
+returns-then-input-lt13 c = ap Err c.new.ensures ∙ short _ c.if-input-lt13.true
 
 pub returns : goal.returns
 returns c =

@@ -2,6 +2,8 @@
 use mathlib.Core.Path.{refl, ap, ◌∙◌}
 use Prim.Native.Nat.{◌+◌, ◌-◌, ◌^◌, ◌<◌}
 use Rattle.array_machine.proofs.Leaves.{fits16, fits64}
+use Rattle.std.specs.Prelude.{Some}
+use Rattle.schedule.specs.declared.Reply.TheVariants.{Done, Quota}
 use Rattle.run_memory.specs.Blocks.{Words, Sums, bytes_in, words_in, numbers_in, sums_in}
 use Rattle.run_memory.specs.Code.Writes.{held_sums, having}
 use Rattle.run_memory.proofs.Acts.{gone_as, written_as, kept_words_as, room_in, share, alloc_room, alloc_beyond, alloc_unfit, alloc_done}
@@ -26,7 +28,7 @@ returns-then-quota-share c =
     let t = c.args.t in
     let a = c.args.a in
     λ T.
-    written_as c.said.ensures c.put_back.ensures.bytes_after c.put_back.ensures.words_after c.put_back.ensures.numbers_after
+    written_as (Some (Quota t c.args.x)) S c.put_back.ensures.bytes_after c.put_back.ensures.words_after c.put_back.ensures.numbers_after
     (alloc_beyond B W N S T w t a c.args.x c.quota_left-quota.ensures (share c.args.x c.setting_at.ensures c.drawn-share.ensures) c.if-quota-share.true)
 
 pub returns-then-not-alloc_fits : goal.returns-then-not-alloc_fits
@@ -39,7 +41,6 @@ returns-then-not-alloc_fits c =
     let t = c.args.t in
     let a = c.args.a in
     λ T.
-    gone_as c.args.bytes.now c.args.words.now c.args.numbers.now c.args.sums.now c.unfit.ensures refl refl refl refl
     (alloc_unfit B W N S T w t a c.args.x c.amount_at-own.ensures c.total_at-all.ensures c.quota_left-quota.ensures (share c.args.x c.setting_at.ensures c.drawn-share.ensures) c.if-quota-share.false c.alloc_fits.ensures c.if-not-alloc_fits.true)
 
 pub overflow_add-a : goal.overflow_add-a
@@ -66,7 +67,7 @@ returns c =
     let a = c.args.a in
     let x = c.args.x in
     λ T.
-    gone_as c.keep.new.bytes c.keep.new.words c.keep.new.numbers c.hold.new.sums c.done.ensures c.keep.ensures.bytes_after
+    gone_as (Some (Done t a)) c.keep.new.bytes c.keep.new.words c.keep.new.numbers c.hold.new.sums c.keep.ensures.bytes_after
     (kept_words_as B w (having t (c.quota_left-quota.result - c.drawn-share.result)) c.put_row.ensures c.keep.ensures.words_after) c.keep.ensures.numbers_after
     (c.hold.ensures ∙ ap (λ (Y : Sums). held_sums (c.total_at-all.result + x) Y) c.put_amount.ensures)
     (alloc_done B W N S T w t a x c.amount_at-own.ensures c.total_at-all.ensures c.quota_left-quota.ensures (share c.args.x c.setting_at.ensures c.drawn-share.ensures) c.if-quota-share.false c.alloc_fits.ensures c.if-not-alloc_fits.false c.requires)

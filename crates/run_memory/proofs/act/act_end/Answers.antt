@@ -7,6 +7,8 @@ use Rattle.table.specs.Sum.{pick}
 use Rattle.table.specs.Format.{Table}
 use Rattle.schedule.specs.Machine.{ready, ended, nobody}
 use Rattle.array_machine.specs.Turn.{waits_in}
+use Rattle.std.specs.Prelude.{Some}
+use Rattle.schedule.specs.declared.Reply.TheVariants.{Done}
 use Rattle.run_memory.specs.Blocks.{bytes_in, words_in, numbers_in, sums_in, Bytes, Words}
 use Rattle.run_memory.specs.Places.{statused, holds_in}
 use Rattle.run_memory.specs.Code.Writes.{linked_left, unlinked, settled, settled_words}
@@ -57,6 +59,6 @@ returns c =
     let t = c.args.t in
     let u = c.row_at-u.result in
     λ T x p q.
-    written_as c.done.ensures (bytes_there (goal.at.returns c).Joined-waits) (c.unlink-2.ensures ∙ ap (unlinked 4 1 t) (c.unlink.ensures ∙ ap (unlinked 2 0 t) (words_there (goal.at.returns c).Joined-waits))) c.put_back.ensures.numbers_after
+    written_as (Some (Done t c.args.a)) S (bytes_there (goal.at.returns c).Joined-waits) (c.unlink-2.ensures ∙ ap (unlinked 4 1 t) (c.unlink.ensures ∙ ap (unlinked 2 0 t) (words_there (goal.at.returns c).Joined-waits))) c.put_back.ensures.numbers_after
     (end_done B W N S T w t c.args.a x u c.waits.result (c.row_at-u.ensures ∙ ap (λ (Y : Words). get_or (Y.rows 0) t 0) c.put_back.ensures.words_after)
     (waits_then T u t w W B (c.waits.ensures T p q) c.put_back.ensures.bytes_after c.put_back.ensures.words_after))

@@ -8,11 +8,13 @@ use lib.Dec.{ltb}
 use Rattle.schedule.specs.Machine.{ready, nobody}
 use Rattle.array_machine.specs.Turn.{next_fits}
 use Rattle.array_machine.proofs.Leaves.{fits16, fits_and}
+use Rattle.std.specs.Prelude.{Some}
+use Rattle.schedule.specs.declared.Reply.TheVariants.{Done}
 use Rattle.run_memory.specs.Blocks.{Words, bytes_in, words_in, numbers_in, sums_in}
 use Rattle.run_memory.specs.Places.{statused}
 use Rattle.run_memory.specs.Code.Writes.{linked_left}
 use Rattle.run_memory.proofs.Acts.{written_as, kept_words_as, room_in}
-use Rattle.run_memory.proofs.ListActs.{unfit_as, fork_unfit, fork_done}
+use Rattle.run_memory.proofs.ListActs.{fork_unfit, fork_done}
 use Rattle.run_memory.proofs.act.act_fork.Goals.{Else-not-fork_fits}
 use Rattle.run_memory.proofs.act.act_fork.Goals as goal
 
@@ -36,7 +38,7 @@ returns-then-not-fork_fits c =
     let W = words_in c.args.words.now in
     let N = numbers_in c.args.numbers.now in
     let S = sums_in c.args.sums.now in
-    λ T. unfit_as c.unfit.ensures (fork_unfit B W N S T c.args.w c.args.t c.args.a c.args.x c.if-not-fork_fits.true c.fork_fits.ensures)
+    λ T. (fork_unfit B W N S T c.args.w c.args.t c.args.a c.args.x c.if-not-fork_fits.true c.fork_fits.ensures)
 
 pub overflow_cast-c : goal.overflow_cast-c
 overflow_cast-c c = fits16 (small (passed (goal.at.overflow_cast-c c).Else-not-fork_fits).1)
@@ -59,6 +61,6 @@ returns c =
     let x = c.args.x in
     let q = kept_words_as B w nobody c.put_row.ensures c.put_back.ensures.words_after in
     λ T.
-    written_as c.done.ensures (c.put_status.ensures ∙ ap (statused x ready) c.put_back.ensures.bytes_after)
+    written_as (Some (Done t c.args.a)) S (c.put_status.ensures ∙ ap (statused x ready) c.put_back.ensures.bytes_after)
     (c.link_left-2.ensures ∙ ap (linked_left 4 1 x t) (c.link_left.ensures ∙ ap (linked_left 2 0 x t) q)) c.put_back.ensures.numbers_after
     (fork_done B W N S T w t c.args.a x c.requires c.if-not-fork_fits.false c.fork_fits.ensures)

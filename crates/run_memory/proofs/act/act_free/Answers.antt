@@ -2,6 +2,8 @@
 use mathlib.Core.Path.{refl, ap, ◌∙◌}
 use Prim.Native.Nat.{◌+◌, ◌-◌, ◌≤◌, ◌<◌}
 use Rattle.array_machine.proofs.Leaves.{fits16}
+use Rattle.std.specs.Prelude.{Some}
+use Rattle.schedule.specs.declared.Reply.TheVariants.{Done}
 use Rattle.run_memory.specs.Blocks.{Words, Sums, bytes_in, words_in, numbers_in, sums_in}
 use Rattle.run_memory.specs.Code.Writes.{held_sums, having}
 use Rattle.run_memory.proofs.Acts.{gone_as, kept_words_as, room_in, free_room, free_unfit, free_done}
@@ -23,7 +25,6 @@ returns-then-not-free_fits c =
     let t = c.args.t in
     let a = c.args.a in
     λ T.
-    gone_as c.args.bytes.now c.args.words.now c.args.numbers.now c.args.sums.now c.unfit.ensures refl refl refl refl
     (free_unfit B W N S T w t a c.args.x c.amount_at-own.ensures c.total_at-all.ensures c.free_fits.ensures c.if-not-free_fits.true)
 
 pub overflow_add-a : goal.overflow_add-a
@@ -50,7 +51,7 @@ returns c =
     let a = c.args.a in
     let x = c.args.x in
     λ T.
-    gone_as c.keep.new.bytes c.keep.new.words c.keep.new.numbers c.hold.new.sums c.done.ensures c.keep.ensures.bytes_after
+    gone_as (Some (Done t a)) c.keep.new.bytes c.keep.new.words c.keep.new.numbers c.hold.new.sums c.keep.ensures.bytes_after
     (kept_words_as B w (having t c.quota_left-left.result) c.put_row.ensures c.keep.ensures.words_after) c.keep.ensures.numbers_after
     (c.hold.ensures ∙ ap (λ (Y : Sums). held_sums (c.total_at-all.result - x) Y) c.put_amount.ensures)
     (free_done B W N S T w t a x c.amount_at-own.ensures c.total_at-all.ensures c.free_fits.ensures c.quota_left-left.ensures c.if-not-free_fits.false c.requires)

@@ -5,11 +5,13 @@ use mathlib.Core.Bool.{Bool, true, ◌&&◌}
 use borrow.Author.Tests.{ltb-true}
 use Rattle.array_machine.specs.Turn.{next_fits, amount_fits}
 use Rattle.array_machine.proofs.Leaves.{fits16, fits64, fits_and}
+use Rattle.std.specs.Prelude.{Some}
+use Rattle.schedule.specs.declared.Reply.TheVariants.{Done}
 use Rattle.run_memory.specs.Blocks.{Words, bytes_in, words_in, numbers_in, sums_in}
 use Rattle.run_memory.specs.Places.{amounted}
 use Rattle.run_memory.specs.Code.Writes.{having}
 use Rattle.run_memory.proofs.Acts.{gone_as, kept_words_as, room_in}
-use Rattle.run_memory.proofs.ListActs.{unfit_as, join_unfit, join_done_lem}
+use Rattle.run_memory.proofs.ListActs.{join_unfit, join_done_lem}
 use Rattle.run_memory.proofs.act.act_joined.Goals.{Else-not-join_fits}
 use Rattle.run_memory.proofs.act.act_joined.Goals as goal
 
@@ -31,7 +33,6 @@ returns-then-not-join_fits c =
     let N = numbers_in c.args.numbers.now in
     let S = sums_in c.args.sums.now in
     λ T.
-    unfit_as c.unfit.ensures
     (join_unfit B W N S T c.args.w c.args.t c.args.a c.args.c c.requires.seated c.requires.c_bound.0 c.requires.c_bound.1 c.amount_at-own.ensures c.amount_at-child.ensures
     c.join_fits.ensures c.if-not-join_fits.true)
 
@@ -54,7 +55,7 @@ returns c =
     let w = c.args.w in
     let t = c.args.t in
     λ T.
-    gone_as c.keep.new.bytes c.keep.new.words c.keep.new.numbers c.put_amount-2.new.sums c.done.ensures c.keep.ensures.bytes_after
+    gone_as (Some (Done t c.args.a)) c.keep.new.bytes c.keep.new.words c.keep.new.numbers c.put_amount-2.new.sums c.keep.ensures.bytes_after
     (kept_words_as B w (having t c.quota_left-quota.result) c.put_row.ensures c.keep.ensures.words_after) c.keep.ensures.numbers_after
     (c.put_amount-2.ensures ∙ ap (amounted c.args.c 0) c.put_amount.ensures)
     (join_done_lem B W N S T w t c.args.a c.args.c c.requires.seated c.requires.c_bound.0 c.requires.c_bound.1 c.amount_at-own.ensures c.amount_at-child.ensures c.join_fits.ensures

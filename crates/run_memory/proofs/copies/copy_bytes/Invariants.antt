@@ -1,5 +1,4 @@
 -- `run_memory::copies::copy_bytes` meets its contract. The invariant: i bytes are copied.
-use Prim.Native.Nat.{◌-◌}
 use Rattle.run_memory.proofs.Copied.{Copying}
 use Rattle.run_memory.proofs.copies.copy_bytes.Given as goal
 

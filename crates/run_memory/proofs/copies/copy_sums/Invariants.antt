@@ -1,5 +1,4 @@
 -- `run_memory::copies::copy_sums` meets its contract. The invariant: i sums are copied.
-use Prim.Native.Nat.{◌-◌}
 use Rattle.run_memory.proofs.Copied.{Copying}
 use Rattle.run_memory.proofs.copies.copy_sums.Given as goal
 

@@ -1,5 +1,4 @@
 -- `run_memory::copies::copy_words` meets its contract. The invariant: i words are copied.
-use Prim.Native.Nat.{◌-◌}
 use lib.ListN.{drop}
 use Rattle.run_memory.proofs.Copied.{Copying}
 use Rattle.run_memory.proofs.copies.copy_words.Given as goal

@@ -1,6 +1,6 @@
 -- `run_memory::copies::copy_workers_in` meets its contract. The invariant: of w workers the records are copied.
 use mathlib.Core.Path.{◌≡◌}
-use Prim.Native.Nat.{ℕ, ◌-◌}
+use Prim.Native.Nat.{ℕ}
 use mathlib.Core.List.{List}
 use lib.ListN.{length}
 use Rattle.table.specs.Sum.{pick}

@@ -1,5 +1,4 @@
 -- `run_memory::copies::workers_out` meets its contract. The invariant: the workers below w have their records.
-use Prim.Native.Nat.{◌-◌}
 use Rattle.run_memory.specs.Blocks.{bytes_in, words_in, numbers_in}
 use Rattle.run_memory.proofs.WorkerRecords.{Upto}
 use Rattle.run_memory.proofs.copies.workers_out.Given as goal

@@ -1,5 +1,4 @@
 -- `run_memory::lent::truths_right` meets its contract. The invariant: the workers below w have 0 or 1.
-use Prim.Native.Nat.{◌-◌}
 use lib.Dec.{ltb}
 use lib.ListN.{get_or}
 use Rattle.order.proofs.Every.{Passed}

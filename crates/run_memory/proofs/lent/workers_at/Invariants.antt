@@ -1,5 +1,4 @@
 -- `run_memory::lent::workers_at` meets its contract. The invariant: the workers below w have their records.
-use Prim.Native.Nat.{◌-◌}
 use Rattle.run_memory.proofs.WorkerRecords.{Upto}
 use Rattle.run_memory.proofs.lent.workers_at.Given as goal
 

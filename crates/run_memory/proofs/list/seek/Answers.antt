@@ -1,7 +1,7 @@
 use mathlib.Core.Path.{◌≡◌, sym, subst, ◌∙◌}
 use Prim.Native.Nat.{ℕ}
 use mathlib.Core.List.{List}
-use Rattle.run_memory.proofs.Searching.{sought_start, sought_found, sought_out, sought_over, sought_on}
+use Rattle.run_memory.proofs.Searching.{sought_start, sought_found, sought_out, sought_over, sought_on, found_as, none_as}
 use Rattle.run_memory.proofs.list.seek.Invariants.{Searched}
 use Rattle.run_memory.proofs.list.seek.Goals as goal
 
@@ -14,7 +14,8 @@ loop-passed-init c =
     read d.bytes.now d.words.now d.k d.h 0 c.head_at-t.ensures (sought_start _ _ _)
 
 pub returns-then-status_at-eq-READY : goal.returns-then-status_at-eq-READY
-returns-then-status_at-eq-READY c = let both = sought_found _ _ _ _ _ c.loop-passed.invariant c.loop-passed-test.true c.if-t-ge-NO_THREAD.false (sym c.status_at.ensures ∙ c.if-status_at-eq-READY.true) in record { thread_value = both.0; passed_value = both.1 }
+returns-then-status_at-eq-READY c =
+    found_as _ c.if-t-ge-NO_THREAD.false (sought_found _ _ _ _ _ c.loop-passed.invariant c.loop-passed-test.true c.if-t-ge-NO_THREAD.false (sym c.status_at.ensures ∙ c.if-status_at-eq-READY.true))
 
 pub loop-passed-preserved : goal.loop-passed-preserved
 loop-passed-preserved c =
@@ -22,8 +23,8 @@ loop-passed-preserved c =
     read a.bytes.now a.words.now a.k a.h _ c.row_at-t.ensures
     (sought_on _ _ _ _ _ c.loop-passed.invariant c.loop-passed-test.true c.if-t-ge-NO_THREAD.false (λ q. c.if-status_at-eq-READY.false (c.status_at.ensures ∙ q)))
 
-pub returns-after-loop-passed : goal.returns-after-loop-passed
-returns-after-loop-passed c = let both = sought_over _ _ _ _ _ c.loop-passed.invariant c.loop-passed-test.false in record { thread_value = both.0; passed_value = both.1 }
-
 pub returns-then-t-ge-NO_THREAD : goal.returns-then-t-ge-NO_THREAD
-returns-then-t-ge-NO_THREAD c = let both = sought_out _ _ _ _ _ c.loop-passed.invariant c.if-t-ge-NO_THREAD.true in record { thread_value = both.0; passed_value = both.1 }
+returns-then-t-ge-NO_THREAD c = none_as _ (sought_out _ _ _ _ _ c.loop-passed.invariant c.if-t-ge-NO_THREAD.true).0
+
+pub returns : goal.returns
+returns c = none_as _ (sought_over _ _ _ _ _ c.loop-passed.invariant c.loop-passed-test.false).0

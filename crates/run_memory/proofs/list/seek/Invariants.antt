@@ -1,5 +1,5 @@
 -- `run_memory::list::seek` meets its contract. The invariant: the whole search finds what the search from t finds, with the threads passed so far.
-use Prim.Native.Nat.{ℕ, ◌-◌}
+use Prim.Native.Nat.{ℕ}
 use mathlib.Core.List.{List}
 use Rattle.run_memory.proofs.Searching.{SoFar}
 use Rattle.run_memory.specs.Blocks.{bytes_in, words_in}
@@ -12,6 +12,3 @@ Searched bytes words k h t passed = SoFar (bytes_in bytes).status ((words_in wor
 
 abbrev pub invariant-loop-passed : goal.invariant-loop-passed
 invariant-loop-passed l = Searched l.bytes l.words l.k l.h l.t l.passed
-
-abbrev pub decreases-loop-passed : goal.decreases-loop-passed
-decreases-loop-passed l = 1024 - l.passed

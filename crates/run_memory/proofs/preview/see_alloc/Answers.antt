@@ -1,8 +1,7 @@
 -- `run_memory::preview::see_alloc` meets its contract: beyond the quota, where a number does not fit, and within both.
 use mathlib.Core.Path.{◌∙◌}
-use Rattle.array_machine.proofs.Leaves.{fits64}
 use Rattle.run_memory.specs.Blocks.{numbers_in, sums_in}
-use Rattle.run_memory.proofs.Acts.{share, alloc_room}
+use Rattle.run_memory.proofs.Acts.{share}
 use Rattle.run_memory.proofs.Seeing.{alloc_beyond, alloc_unfit, alloc_done}
 use Rattle.run_memory.proofs.preview.see_alloc.Goals as goal
 
@@ -12,12 +11,7 @@ returns-then-quota-share c =
 
 pub returns-then-not-alloc_fits : goal.returns-then-not-alloc_fits
 returns-then-not-alloc_fits c =
-    λ T B W. c.unseen.ensures
-    ∙ alloc_unfit B W (numbers_in c.args.numbers.now) (sums_in c.args.sums.now) T c.args.t c.args.a c.args.x c.args.quota c.amount_at-own.ensures c.total_at-all.ensures (share c.args.x c.setting_at.ensures c.drawn-share.ensures) c.if-quota-share.false c.alloc_fits.ensures c.if-not-alloc_fits.true
-
-pub overflow_add-all : goal.overflow_add-all
-overflow_add-all c =
-    fits64 (alloc_room c.args.a c.total_at-all.result c.amount_at-own.result c.args.x c.if-not-alloc_fits.false c.alloc_fits.ensures).1.0
+    λ T B W. alloc_unfit B W (numbers_in c.args.numbers.now) (sums_in c.args.sums.now) T c.args.t c.args.a c.args.x c.args.quota c.amount_at-own.ensures c.total_at-all.ensures (share c.args.x c.setting_at.ensures c.drawn-share.ensures) c.if-quota-share.false c.alloc_fits.ensures c.if-not-alloc_fits.true
 
 pub returns : goal.returns
 returns c =

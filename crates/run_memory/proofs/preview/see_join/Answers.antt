@@ -6,8 +6,7 @@ use Rattle.run_memory.proofs.preview.see_join.Goals as goal
 
 pub returns-then-x-ge1024 : goal.returns-then-x-ge1024
 returns-then-x-ge1024 c =
-    λ T W N. c.unseen.ensures
-    ∙ join_outside (bytes_in c.args.bytes.now) W N (sums_in c.args.sums.now) T c.args.t c.args.a c.args.x c.args.quota c.if-x-ge1024.true
+    λ T W N. join_outside (bytes_in c.args.bytes.now) W N (sums_in c.args.sums.now) T c.args.t c.args.a c.args.x c.args.quota c.if-x-ge1024.true
 
 pub returns-then-status_at-ne-ENDED : goal.returns-then-status_at-ne-ENDED
 returns-then-status_at-ne-ENDED c =

@@ -1,6 +1,6 @@
 -- `run_memory::runs::drive` meets its contract. The invariant: what is left of the run is the whole, and the root has not ended (Along).
 use mathlib.Core.Path.{◌≡◌}
-use Prim.Native.Nat.{ℕ, ◌-◌, ◌%◌, ◌<◌}
+use Prim.Native.Nat.{ℕ, ◌%◌, ◌<◌}
 use mathlib.Core.List.{List}
 use mathlib.Core.Bool.{Bool, true}
 use lib.ListN.{get_or}
@@ -19,6 +19,3 @@ pub record Inv (s order : List ℕ) (rounds : Bool) (limit : ℕ) (M₀ M : Memo
 abbrev pub invariant-loop-i : goal.invariant-loop-i
 invariant-loop-i l =
     Inv l.table l.order l.rounds l.limit (memory_of l.initial.bytes l.initial.words l.initial.numbers l.initial.sums) (memory_of l.bytes l.words l.numbers l.sums) l.p l.i l.next
-
-abbrev pub decreases-loop-i : goal.decreases-loop-i
-decreases-loop-i l = l.limit - l.i

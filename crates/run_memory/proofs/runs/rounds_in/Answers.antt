@@ -14,19 +14,19 @@ start d = memory_of d.args.bytes.now d.args.words.now d.args.numbers.now d.args.
 some : {p q : ℕ} → p ≡ q → (p ≡ 0 → ⊥) → 0 < q
 some e h = omega (arith, e, h)
 
-pub returns-then-total_at-eq18446744073709551615 : goal.returns-then-total_at-eq18446744073709551615
-returns-then-total_at-eq18446744073709551615 c =
-    stopped_as_lem c.refused.ensures (full_rounds c.args.table.now (start (goal.at.returns-then-total_at-eq18446744073709551615 c).Start) (sym c.total_at.ensures ∙ c.if-total_at-eq18446744073709551615.true) c.args.limit)
+pub returns-then-total_at-eq18446744073709551615-clause-run_value : goal.returns-then-total_at-eq18446744073709551615-clause-run_value
+returns-then-total_at-eq18446744073709551615-clause-run_value c =
+    stopped_as_lem _ _ c.refused.ensures (full_rounds c.args.table.now (start (goal.at.returns-then-total_at-eq18446744073709551615-clause-run_value c).Start) (sym c.total_at.ensures ∙ c.if-total_at-eq18446744073709551615.true) c.args.limit)
 
-pub returns-then-setting_at-eq0 : goal.returns-then-setting_at-eq0
-returns-then-setting_at-eq0 c =
-    stopped_as_lem c.refused-then-setting_at-eq0.ensures
-    (no_rounds c.args.table.now (start (goal.at.returns-then-setting_at-eq0 c).Start) (λ x. c.if-total_at-eq18446744073709551615.false (c.total_at.ensures ∙ x)) c.args.limit (sym c.setting_at.ensures ∙ c.if-setting_at-eq0.true))
+pub returns-then-setting_at-eq0-clause-run_value : goal.returns-then-setting_at-eq0-clause-run_value
+returns-then-setting_at-eq0-clause-run_value c =
+    stopped_as_lem _ _ c.refused-then-setting_at-eq0.ensures
+    (no_rounds c.args.table.now (start (goal.at.returns-then-setting_at-eq0-clause-run_value c).Start) (λ x. c.if-total_at-eq18446744073709551615.false (c.total_at.ensures ∙ x)) c.args.limit (sym c.setting_at.ensures ∙ c.if-setting_at-eq0.true))
 
 pub drive-requires : goal.drive-requires
 drive-requires c =
     λ e. some c.setting_at.ensures c.if-setting_at-eq0.false
 
-pub returns : goal.returns
-returns c =
-    driven_rounds c.args.table.now (start (goal.at.returns c).Start) (λ x. c.if-total_at-eq18446744073709551615.false (c.total_at.ensures ∙ x)) c.args.limit (λ x. c.if-setting_at-eq0.false (c.setting_at.ensures ∙ x)) c.drive.ensures
+pub returns-clause-run_value : goal.returns-clause-run_value
+returns-clause-run_value c =
+    driven_rounds c.args.table.now (start (goal.at.returns-clause-run_value c).Start) (λ x. c.if-total_at-eq18446744073709551615.false (c.total_at.ensures ∙ x)) c.args.limit (λ x. c.if-setting_at-eq0.false (c.setting_at.ensures ∙ x)) c.drive.ensures.run_value

@@ -1,11 +1,10 @@
 -- `soundness::amounts::held_right` meets its contract. The invariant: the sums are those of what is done in the threads below t.
-use Prim.Native.Nat.{ℕ, ◌-◌, ◌≤◌}
+use Prim.Native.Nat.{ℕ, ◌≤◌}
 use mathlib.Core.List.{List}
 use Rattle.table.specs.Format.{table_of}
 use Rattle.table.specs.Checks.{alloc_of, free_of}
 use Rattle.soundness.specs.Code.Checks.{Accepted, Placed}
 use Rattle.soundness.specs.declared.amounts.Sums.{Sums}
-use Rattle.soundness.proofs.Lookups.{placed}
 use Rattle.soundness.proofs.DoneSums.{Counted}
 use Rattle.soundness.proofs.amounts.held_right.Given as goal
 

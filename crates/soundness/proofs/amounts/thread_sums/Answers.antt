@@ -4,7 +4,7 @@ use mathlib.Core.List.{List}
 use native.Mathlib.Numerals.{add-one}
 use native.Mathlib.Omega.{arith}
 use Rattle.table.specs.Sum.{sum_to, Read}
-use Rattle.table.specs.Format.{kind_of, Table, kind, table_of, own_amount}
+use Rattle.table.specs.Format.{kind_of, code_at, argument_at, Table, kind, table_of, own_amount}
 use Rattle.table.specs.declared.kinds.Kind.{Kind}
 use Rattle.table.specs.declared.kinds.Kind.TheVariants.{Alloc as alloc, Free as free}
 use Rattle.table.specs.Checks.{alloc_of, free_of}
@@ -58,6 +58,13 @@ module _ (s : List ℕ) (n t stop allocs₀ frees₀ allocs frees a k x r q : �
         given = add (table_of s) (free_of (table_of s)) free (free_is (table_of s)) _ _ _ _ _ _ _ i.given e f d;
       }
 
+-- what is read in a list of actions, of the table's own
+code_there : {l m : List ℕ} (a : ℕ) {k : ℕ} → l ≡ m → k ≡ code_at l a → k ≡ code_at m a
+code_there a e d = rw e at d
+
+argument_there : {l m : List ℕ} (a : ℕ) {x : ℕ} → l ≡ m → Read (argument_at l a) 16777216 x → Read (argument_at m a) 16777216 x
+argument_there a e d = rw e at d
+
 last : (s : List ℕ) (n t stop allocs₀ frees₀ allocs frees a : ℕ) → Inv s n t stop allocs₀ frees₀ allocs frees a → stop ≤ a
     → (Added (alloc_of (table_of s)) ((table_of s).first t) stop allocs₀ allocs) × (Added (free_of (table_of s)) ((table_of s).first t) stop frees₀ frees)
 last s n t stop allocs₀ frees₀ allocs frees a i h =
@@ -68,16 +75,16 @@ pub loop-a-init : goal.loop-a-init
 loop-a-init c = start c.args.table.now _ _ _ _ c.args.before c.requires c.first-a.ensures.value
 
 pub overflow_add-allocs : goal.overflow_add-allocs
-overflow_add-allocs c = omega (arith, own_small alloc (kind_of c.code-k.result) c.argument-x.result c.argument-x.ensures.small)
+overflow_add-allocs c = omega (arith, own_small alloc (kind_of c.action_in-action.result.code) c.action_in-action.result.argument c.action_in-action.ensures.read.small)
 
 pub overflow_add-frees : goal.overflow_add-frees
-overflow_add-frees c =
-    omega (arith, own_small free (kind_of c.code-k.result) c.argument-x.result c.argument-x.ensures.small)
+overflow_add-frees c = omega (arith, own_small free (kind_of c.action_in-action.result.code) c.action_in-action.result.argument c.action_in-action.ensures.read.small)
 
 pub loop-a-preserved : goal.loop-a-preserved
 loop-a-preserved c =
     again c.args.table.now _ _ _ _ _ _ _ _ _ _ _ _ c.loop-a.invariant c.loop-a-test.true
-    (code_read c.loop-a.invariant.accepted _ c.code-k.ensures) (argument_read c.loop-a.invariant.accepted _ c.argument-x.ensures) c.alloc_of-allocs.ensures c.free_of-frees.ensures
+    (code_read c.loop-a.invariant.accepted _ (code_there _ c.bodies-actions.ensures c.action_in-action.ensures.code_value))
+    (argument_read c.loop-a.invariant.accepted _ (argument_there _ c.bodies-actions.ensures c.action_in-action.ensures.read)) c.alloc-allocs.ensures c.free-frees.ensures
 
 pub returns : goal.returns
 returns c = let both = last c.args.table.now _ _ _ _ _ _ _ _ c.loop-a.invariant c.loop-a-test.false in record { added = both.0; added_2 = both.1 }

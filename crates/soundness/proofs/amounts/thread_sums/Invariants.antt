@@ -1,5 +1,5 @@
 -- `soundness::amounts::thread_sums` meets its contract. The invariant: the amounts of the thread's actions below a are added.
-use Prim.Native.Nat.{ℕ, ◌-◌, ◌≤◌}
+use Prim.Native.Nat.{ℕ, ◌≤◌}
 use mathlib.Core.List.{List}
 use Rattle.table.specs.Format.{table_of}
 use Rattle.table.specs.Checks.{alloc_of, free_of}

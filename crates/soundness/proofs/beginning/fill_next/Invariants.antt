@@ -1,5 +1,5 @@
 -- `soundness::beginning::fill_next` meets its contract. The invariant: the first t places have these threads' first actions, and the others 0.
-use Prim.Native.Nat.{ℕ, ◌-◌, ◌≤◌}
+use Prim.Native.Nat.{ℕ, ◌≤◌}
 use mathlib.Core.List.{List}
 use Rattle.table.specs.Format.{actions_of, table_of}
 use Rattle.table.proofs.Sizes.{Sizes}

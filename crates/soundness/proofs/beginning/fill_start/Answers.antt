@@ -2,7 +2,6 @@
 use mathlib.Core.Path.{◌≡◌, refl, ap, ◌∙◌}
 use Prim.Native.Nat.{ℕ}
 use mathlib.Core.List.{List}
-use borrow.Author.Rules.{rules}
 use Rattle.table.specs.Format.{threads_of, table_of}
 use Rattle.table.specs.Rules.{Rules}
 use Rattle.order.specs.Firsts.{firsts}

@@ -1,6 +1,6 @@
 -- `soundness::beginning::settings_fault` meets its contract, test by test.
 use Rattle.std.specs.Prelude.{Err, Ok}
-use mathlib.Core.Path.{◌≡◌, sym, ◌∙◌}
+use mathlib.Core.Path.{◌≡◌, sym, ap, ◌∙◌}
 use Prim.Native.Nat.{ℕ}
 use mathlib.Core.Bool.{true, false}
 use Rattle.table.specs.Pass.{refusal, try_at, try_from, try_pass, first_found}
@@ -24,12 +24,12 @@ module _ (p K : ℕ) where
 pub returns-then-outside : goal.returns-then-outside
 returns-then-outside c =
     let a = c.args in
-    c.refuse.ensures ∙ many_workers a.p a.quota (sym c.outside.ensures ∙ c.if-outside.true)
+    ap Err c.new.ensures ∙ many_workers a.p a.quota (sym c.outside.ensures ∙ c.if-outside.true)
 
 pub returns-then-outside-2 : goal.returns-then-outside-2
 returns-then-outside-2 c =
     let a = c.args in
-    c.refuse-then-outside-2.ensures
+    ap Err c.new-then-outside-2.ensures
     ∙ wide_quota a.p a.quota (sym c.outside.ensures ∙ c.if-outside.false) (sym c.outside-2.ensures ∙ c.if-outside-2.true)
 
 pub returns : goal.returns

@@ -1,6 +1,5 @@
 -- `soundness::bodies::end_of` meets its contract: a body is not empty, so that the action before its end is its last.
 use native.Mathlib.Omega.{arith}
-use borrow.Author.Rules.{rules}
 use Rattle.table.specs.Format.{table_of}
 use Rattle.order.proofs.Lawful.{lawful}
 use Rattle.soundness.proofs.Lookups.{Body, body}

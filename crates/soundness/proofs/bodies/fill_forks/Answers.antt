@@ -3,7 +3,6 @@ use Prim.Native.Nat.{ℕ, ◌+◌, ◌≤◌, ◌<◌}
 use mathlib.Core.List.{List}
 use native.Mathlib.Numerals.{add-one}
 use native.Mathlib.Omega.{arith}
-use borrow.Author.Rules.{rules}
 use lib.ListN.{replicate}
 use Rattle.table.specs.Sum.{sum_to}
 use Rattle.table.specs.Format.{table_of}
@@ -73,14 +72,15 @@ module _ (s : List ℕ) (n : ℕ) (forks parents : List ℕ) where
           noted = o;
         }
 
-    leave : stop ≤ a → Inv s n forks parents a (t + 1)
+    leave : stop ≤ a → Inv s n forks parents stop (t + 1)
     unfolding sum_to
     leave h =
+        let e : a ≡ stop = omega (arith, i.upto) in
         record {
           accepted = i.accepted;
           within = omega (arith, i.thread);
-          begins = rw add-one (omega (arith, i.upto, i.stops, first_is (table_of s) i.accepted.rules.contents t (thread_below i.accepted i.thread)));
-          noted = i.noted;
+          begins = rw add-one (omega (arith, i.stops, first_is (table_of s) i.accepted.rules.contents t (thread_below i.accepted i.thread)));
+          noted = rw e at i.noted;
         }
 
 pub loop-t-init : goal.loop-t-init
@@ -95,12 +95,6 @@ loop-a-init c = enter _ _ _ _ _ _ c.loop-t.invariant c.loop-t-test.true _ c.coun
 
 pub note_fork-requires : goal.note_fork-requires
 note_fork-requires c = let both = asked _ _ _ _ _ _ _ c.loop-a.invariant c.loop-a-test.true in record { accepted = both.0; a_bound = both.1.0; a_value = both.1.1.0; noted = both.1.1.1 }
-
-pub overflow_add-a : goal.overflow_add-a
-overflow_add-a c = omega arith
-
-pub loop-a-smaller : goal.loop-a-smaller
-loop-a-smaller c = omega arith
 
 pub loop-a-preserved : goal.loop-a-preserved
 loop-a-preserved c =

@@ -1,6 +1,6 @@
 -- `soundness::bodies::fill_forks` meets its contract. The invariants: the forks below a are noted; a is where thread t begins, or lies in its body.
 use mathlib.Core.Path.{◌≡◌}
-use Prim.Native.Nat.{ℕ, ◌+◌, ◌-◌, ◌≤◌, ◌<◌}
+use Prim.Native.Nat.{ℕ, ◌+◌, ◌≤◌, ◌<◌}
 use mathlib.Core.List.{List}
 use Rattle.table.specs.Format.{table_of}
 use Rattle.table.specs.Checks.{counts_below}
@@ -26,8 +26,5 @@ pub record Inv2 (s : List ℕ) (n t stop : ℕ) (forks parents : List ℕ) (a : 
 abbrev pub invariant-loop-a : goal.invariant-loop-a
 invariant-loop-a l = Inv2 l.table l.n l.t l.stop l.forks l.parents l.a
 
-abbrev pub decreases-loop-a : goal.decreases-loop-a
-decreases-loop-a l = l.stop - l.a
-
 abbrev pub invariant-loop-t : goal.invariant-loop-t
-invariant-loop-t l = Inv l.table l.n l.forks l.parents l.a l.t
+invariant-loop-t l = Inv l.table l.n l.forks l.parents l.first l.t

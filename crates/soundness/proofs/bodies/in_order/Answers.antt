@@ -2,7 +2,6 @@ use mathlib.Core.Bool.{not}
 use mathlib.Core.Path.{◌≡◌, ◌∙◌, ap}
 use Prim.Native.Nat.{ℕ}
 use mathlib.Core.List.{List}
-use native.Mathlib.Omega.{arith}
 use Rattle.table.specs.Format.{table_of}
 use Rattle.schedule.specs.Sound.{in_order}
 use Rattle.order.specs.Words.{all_below}

@@ -1,5 +1,4 @@
 -- `soundness::bodies::in_order` meets its contract. The invariant: the actions of the threads below t are in order.
-use Prim.Native.Nat.{◌-◌}
 use Rattle.table.specs.Format.{table_of}
 use Rattle.soundness.specs.Code.Checks.{body_in_order}
 use Rattle.order.proofs.Every.{Passed}

@@ -1,5 +1,4 @@
 -- `soundness::bodies::next_in_bodies` meets its contract. The invariant: the threads below t pass the test.
-use Prim.Native.Nat.{◌-◌}
 use Rattle.table.specs.Format.{table_of}
 use Rattle.schedule.specs.Sound.{next_in_body}
 use Rattle.order.proofs.Every.{Passed}

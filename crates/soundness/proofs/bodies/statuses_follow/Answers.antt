@@ -1,7 +1,5 @@
 use mathlib.Core.Bool.{not}
 use mathlib.Core.Path.{ap}
-use native.Mathlib.Omega.{arith}
-use Rattle.schedule.specs.Sound.{status_follows}
 use Rattle.soundness.proofs.Lookups.{thread_below}
 use Rattle.order.proofs.Every.{passed_none, passed_next, passed_stop, passed_all}
 use Rattle.soundness.proofs.bodies.statuses_follow.Goals as goal

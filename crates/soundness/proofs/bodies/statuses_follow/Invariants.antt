@@ -1,5 +1,4 @@
 -- `soundness::bodies::statuses_follow` meets its contract. The invariant: the threads below t pass the test.
-use Prim.Native.Nat.{◌-◌}
 use Rattle.table.specs.Format.{table_of}
 use Rattle.schedule.specs.Sound.{status_follows}
 use Rattle.order.proofs.Every.{Passed}

@@ -6,7 +6,7 @@ use native.Mathlib.Omega.{arith}
 use lib.Dec.{leb}
 use Rattle.table.specs.Format.{table_of}
 use Rattle.schedule.specs.Parents.{Parents}
-use Rattle.soundness.specs.Code.Checks.{Accepted, Placed, Forks, done_to, unborn_in, unborn_at, join_done, body_in_order}
+use Rattle.soundness.specs.Code.Checks.{Accepted, Placed, Forks, done_to, unborn_in, unborn_at, body_in_order}
 use Rattle.soundness.proofs.Lookups.{accepted_lawful, thread_below, accepted_body, placed}
 use Rattle.soundness.proofs.Done.{stop_within, unborn_in_order}
 use Rattle.soundness.proofs.Noting.{few, unborn_noted}

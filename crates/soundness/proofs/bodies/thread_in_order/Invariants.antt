@@ -1,6 +1,6 @@
 -- `soundness::bodies::thread_in_order` meets its contract. The invariant: the thread is born, and its actions below a are in order.
 use mathlib.Core.Path.{◌≡◌, sym, ◌∙◌}
-use Prim.Native.Nat.{ℕ, ◌+◌, ◌-◌, ◌≤◌, ◌<◌}
+use Prim.Native.Nat.{ℕ, ◌+◌, ◌≤◌, ◌<◌}
 use mathlib.Core.List.{List}
 use mathlib.Core.Bool.{Bool, true, false, not}
 use native.Mathlib.Decide.{ℕ_discrete, dec_lt}

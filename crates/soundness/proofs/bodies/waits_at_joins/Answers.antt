@@ -1,7 +1,5 @@
 use mathlib.Core.Bool.{not}
 use mathlib.Core.Path.{ap}
-use native.Mathlib.Omega.{arith}
-use Rattle.schedule.specs.Sound.{waits_at_join}
 use Rattle.order.proofs.Every.{passed_none, passed_next, passed_stop, passed_all}
 use Rattle.soundness.proofs.bodies.waits_at_joins.Goals as goal
 

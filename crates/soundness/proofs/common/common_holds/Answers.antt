@@ -18,8 +18,9 @@ use Rattle.schedule.specs.Sound.{next_in_body, in_order, status_follows, waits_a
 use Rattle.order.specs.Words.{all_below, same_list}
 use Rattle.soundness.specs.Code.Checks.{Accepted, threads_sound, holders_sound}
 use Rattle.soundness.proofs.Lookups.{few_threads}
-use Rattle.soundness.proofs.Chains.{cut, stop, pass, skip, first_of}
+use Rattle.soundness.proofs.Chains.{cut, stop, pass, skip, first_of, found_nothing, found_some}
 use borrow.Author.Rules.{rules}
+use Rattle.soundness.proofs.common.common_holds.Goals.{Else-is_err}
 use Rattle.soundness.proofs.common.common_holds.Goals as goal
 
 regroup : (x y z a b c d e f g h m i j : Bool)
@@ -94,32 +95,36 @@ module _ (s : List ℕ) (n p K : ℕ) (next status amounts : List ℕ) (workers 
           → r ≡ common_sound s p K next status amounts workers set amount highest
       past_amounts o v e = past_held (pass (sym o ∙ v) e)
 
-pub returns-in-Err : goal.returns-in-Err
-returns-in-Err c = no_settings _ _ _ _ _ _ _ _ _ _ _ c.requires.accepted (sym c.settings_fault-found.ensures ∙ c.in-Err.is)
+-- past 20 and 21
+settled : (c : Else-is_err) → c.settings_fault.result ≡ Ok tt
+settled c = found_nothing _ c.is_err.ensures.value c.if-is_err.false
+
+pub returns-then-is_err : goal.returns-then-is_err
+returns-then-is_err c = no_settings _ _ _ _ _ _ _ _ _ _ _ c.requires.accepted (sym c.settings_fault.ensures ∙ (found_some _ c.is_err.ensures.value c.if-is_err.true).1)
 
 pub returns-then-not-threads_sound : goal.returns-then-not-threads_sound
-returns-then-not-threads_sound c = no_threads _ _ _ _ _ _ _ _ _ _ _ c.requires.accepted (sym c.settings_fault-found.ensures ∙ c.in_default.is) (sym c.threads_sound.ensures.value ∙ c.if-not-threads_sound.true)
+returns-then-not-threads_sound c = no_threads _ _ _ _ _ _ _ _ _ _ _ c.requires.accepted (sym c.settings_fault.ensures ∙ (settled (goal.at.returns-then-not-threads_sound c).Else-is_err)) (sym c.threads_sound.ensures.value ∙ c.if-not-threads_sound.true)
 
 pub holders_sound-requires : goal.holders_sound-requires
 holders_sound-requires c = few_threads c.requires.accepted
 
 pub returns-then-not-holders_sound : goal.returns-then-not-holders_sound
-returns-then-not-holders_sound c = past_threads _ _ _ _ _ _ _ _ _ _ _ c.requires.accepted c.settings_fault-found.ensures c.in_default.is (search rules) c.threads_sound.ensures.value c.if-not-threads_sound.false c.threads_sound.ensures.next_len (cut _ (sym c.holders_sound.ensures ∙ c.if-not-holders_sound.true))
+returns-then-not-holders_sound c = past_threads _ _ _ _ _ _ _ _ _ _ _ c.requires.accepted c.settings_fault.ensures (settled (goal.at.returns-then-not-holders_sound c).Else-is_err) (search rules) c.threads_sound.ensures.value c.if-not-threads_sound.false c.threads_sound.ensures.next_len (cut _ (sym c.holders_sound.ensures ∙ c.if-not-holders_sound.true))
 
 pub held_right-requires : goal.held_right-requires
 held_right-requires c = record { accepted = c.requires.accepted; placed = first_of _ _ (sym c.threads_sound.ensures.value ∙ c.if-not-threads_sound.false) }
 
 pub returns-then-not-held_right : goal.returns-then-not-held_right
-returns-then-not-held_right c = past_holders _ _ _ _ _ _ _ _ _ _ _ c.requires.accepted c.settings_fault-found.ensures c.in_default.is (search rules) c.threads_sound.ensures.value c.if-not-threads_sound.false c.threads_sound.ensures.next_len c.holders_sound.ensures c.if-not-holders_sound.false (cut _ (sym c.held_right.ensures ∙ c.if-not-held_right.true))
+returns-then-not-held_right c = past_holders _ _ _ _ _ _ _ _ _ _ _ c.requires.accepted c.settings_fault.ensures (settled (goal.at.returns-then-not-held_right c).Else-is_err) (search rules) c.threads_sound.ensures.value c.if-not-threads_sound.false c.threads_sound.ensures.next_len c.holders_sound.ensures c.if-not-holders_sound.false (cut _ (sym c.held_right.ensures ∙ c.if-not-held_right.true))
 
 pub amounts_right-requires : goal.amounts_right-requires
 amounts_right-requires c = record { accepted = c.requires.accepted; status_value = sym c.threads_sound.ensures.value ∙ c.if-not-threads_sound.false }
 
 pub returns-then-not-amounts_right : goal.returns-then-not-amounts_right
-returns-then-not-amounts_right c = past_held _ _ _ _ _ _ _ _ _ _ _ c.requires.accepted c.settings_fault-found.ensures c.in_default.is (search rules) c.threads_sound.ensures.value c.if-not-threads_sound.false c.threads_sound.ensures.next_len c.holders_sound.ensures c.if-not-holders_sound.false c.held_right.ensures c.if-not-held_right.false (cut _ (sym c.amounts_right.ensures ∙ c.if-not-amounts_right.true))
+returns-then-not-amounts_right c = past_held _ _ _ _ _ _ _ _ _ _ _ c.requires.accepted c.settings_fault.ensures (settled (goal.at.returns-then-not-amounts_right c).Else-is_err) (search rules) c.threads_sound.ensures.value c.if-not-threads_sound.false c.threads_sound.ensures.next_len c.holders_sound.ensures c.if-not-holders_sound.false c.held_right.ensures c.if-not-held_right.false (cut _ (sym c.amounts_right.ensures ∙ c.if-not-amounts_right.true))
 
 pub returns-then-held-highest : goal.returns-then-held-highest
-returns-then-held-highest c = past_amounts _ _ _ _ _ _ _ _ _ _ _ c.requires.accepted c.settings_fault-found.ensures c.in_default.is (search rules) c.threads_sound.ensures.value c.if-not-threads_sound.false c.threads_sound.ensures.next_len c.holders_sound.ensures c.if-not-holders_sound.false c.held_right.ensures c.if-not-held_right.false c.amounts_right.ensures c.if-not-amounts_right.false (pass (le-leb _ _ c.if-held-highest.true) c.busy_right.ensures)
+returns-then-held-highest c = past_amounts _ _ _ _ _ _ _ _ _ _ _ c.requires.accepted c.settings_fault.ensures (settled (goal.at.returns-then-held-highest c).Else-is_err) (search rules) c.threads_sound.ensures.value c.if-not-threads_sound.false c.threads_sound.ensures.next_len c.holders_sound.ensures c.if-not-holders_sound.false c.held_right.ensures c.if-not-held_right.false c.amounts_right.ensures c.if-not-amounts_right.false (pass (le-leb _ _ c.if-held-highest.true) c.busy_right.ensures)
 
 pub returns-else-held-highest : goal.returns-else-held-highest
-returns-else-held-highest c = past_amounts _ _ _ _ _ _ _ _ _ _ _ c.requires.accepted c.settings_fault-found.ensures c.in_default.is (search rules) c.threads_sound.ensures.value c.if-not-threads_sound.false c.threads_sound.ensures.next_len c.holders_sound.ensures c.if-not-holders_sound.false c.held_right.ensures c.if-not-held_right.false c.amounts_right.ensures c.if-not-amounts_right.false (stop _ _ (lt-leb _ _ c.if-held-highest.false))
+returns-else-held-highest c = past_amounts _ _ _ _ _ _ _ _ _ _ _ c.requires.accepted c.settings_fault.ensures (settled (goal.at.returns-else-held-highest c).Else-is_err) (search rules) c.threads_sound.ensures.value c.if-not-threads_sound.false c.threads_sound.ensures.next_len c.holders_sound.ensures c.if-not-holders_sound.false c.held_right.ensures c.if-not-held_right.false c.amounts_right.ensures c.if-not-amounts_right.false (stop _ _ (lt-leb _ _ c.if-held-highest.false))

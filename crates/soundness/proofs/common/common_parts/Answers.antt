@@ -4,7 +4,6 @@ use mathlib.Core.Path.{◌≡◌, refl, sym, ◌∙◌}
 use Prim.Native.Nat.{ℕ}
 use mathlib.Core.List.{List}
 use mathlib.Core.Bool.{false}
-use borrow.Author.Rules.{rules}
 use lib.ListN.{replicate}
 use Rattle.table.specs.Format.{table_of, threads_of}
 use Rattle.table.specs.Pass.{first_found}
@@ -17,7 +16,9 @@ use Rattle.schedule.specs.Sound.{common_sound}
 use Rattle.order.specs.Words.{is_nothing}
 use Rattle.soundness.specs.Code.Checks.{Accepted}
 use Rattle.soundness.specs.Tested.{parents_in, parents_if}
+use Rattle.soundness.proofs.Chains.{found_nothing, found_some}
 use Rattle.soundness.proofs.Noting.{parents_right}
+use Rattle.soundness.proofs.common.common_parts.Goals.{Else-is_err}
 use Rattle.soundness.proofs.common.common_parts.Goals as goal
 
 module _ (s : List ℕ) where
@@ -36,14 +37,17 @@ known : {s : List ℕ} {n : ℕ} {x : Result ⊤ Refusal} → x ≡ first_found 
 unfolding table_of
 known {s} f d e = record { rules = (passes_rules s).0 (sym f ∙ d); threads = e }
 
-pub returns-in-Err : goal.returns-in-Err
-returns-in-Err c = let e = sym c.check_in-found.ensures.value ∙ c.in-Err.is in record { value = not_sound _ _ _ _ _ _ _ _ _ _ e; parents_after = no_parents _ e; falls_after = c.check_in-found.ensures.rises_after.1 }
+accepts : (c : Else-is_err) → c.check_in.result ≡ Ok tt
+accepts c = found_nothing _ c.is_err.ensures.value c.if-is_err.false
+
+pub returns-then-is_err : goal.returns-then-is_err
+returns-then-is_err c = let e = sym c.check_in.ensures.value ∙ (found_some _ c.is_err.ensures.value c.if-is_err.true).1 in record { value = not_sound _ _ _ _ _ _ _ _ _ _ e; parents_after = no_parents _ e; falls_after = c.check_in.ensures.rises_after.1 }
 
 pub fill_forks-requires : goal.fill_forks-requires
-fill_forks-requires c = record { accepted = known c.check_in-found.ensures.value c.in_default.is c.threads-n.ensures.value; forks_value = (refl, refl) }
+fill_forks-requires c = record { accepted = known c.check_in.ensures.value (accepts (goal.at.fill_forks-requires c).Else-is_err) c.threads-n.ensures.value; forks_value = (refl, refl) }
 
 pub common_holds-requires : goal.common_holds-requires
-common_holds-requires c = record { accepted = known c.check_in-found.ensures.value c.in_default.is c.threads-n.ensures.value; forks = c.fill_forks.ensures.forks; parents = parents_right _ c.fill_forks.ensures.parents_after }
+common_holds-requires c = record { accepted = known c.check_in.ensures.value (accepts (goal.at.common_holds-requires c).Else-is_err) c.threads-n.ensures.value; forks = c.fill_forks.ensures.forks; parents = parents_right _ c.fill_forks.ensures.parents_after }
 
 pub returns : goal.returns
-returns c = record { value = c.common_holds.ensures; parents_after = its_parents _ (known {s = c.args.table.now} c.check_in-found.ensures.value c.in_default.is c.threads-n.ensures.value).rules c.fill_forks.ensures.parents_after; falls_after = c.check_in-found.ensures.rises_after.1 }
+returns c = record { value = c.common_holds.ensures; parents_after = its_parents _ (known {s = c.args.table.now} c.check_in.ensures.value (accepts (goal.at.returns c).Else-is_err) c.threads-n.ensures.value).rules c.fill_forks.ensures.parents_after; falls_after = c.check_in.ensures.rises_after.1 }

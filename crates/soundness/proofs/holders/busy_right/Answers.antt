@@ -48,37 +48,22 @@ module _ (workers : List Worker) (set w : ℕ) (i : Inv workers set w) where
 pub loop-w-init : goal.loop-w-init
 loop-w-init c = start c.args.workers (search rules)
 
-pub overflow_sub-w : goal.overflow_sub-w
-overflow_sub-w c = omega arith
-
-pub offset_bounds-workers-w : goal.offset_bounds-workers-w
-offset_bounds-workers-w c = omega arith
-
-pub bounds-workers-w : goal.bounds-workers-w
-bounds-workers-w c = omega arith
-
 pub overflow_mul-set : goal.overflow_mul-set
 overflow_mul-set c = omega (arith, small _ _ _ c.loop-w.invariant)
 
 pub overflow_add-set : goal.overflow_add-set
 overflow_add-set c = omega (arith, small _ _ _ c.loop-w.invariant)
 
-pub loop-w-smaller-then-x : goal.loop-w-smaller-then-x
-loop-w-smaller-then-x c = omega arith
+pub loop-w-preserved-then-workers-w : goal.loop-w-preserved-then-workers-w
+loop-w-preserved-then-workers-w c =
+    again c.args.workers _ _ c.loop-w.invariant c.loop-w-test.true true c.if-workers-w.true _ refl
 
-pub loop-w-preserved-then-x : goal.loop-w-preserved-then-x
-loop-w-preserved-then-x c =
-    again c.args.workers _ _ c.loop-w.invariant c.loop-w-test.true true c.if-x.true _ refl
-
-pub overflow_mul-set-else-x : goal.overflow_mul-set-else-x
-overflow_mul-set-else-x c = omega (arith, small _ _ _ c.loop-w.invariant)
-
-pub loop-w-smaller : goal.loop-w-smaller
-loop-w-smaller c = omega arith
+pub overflow_mul-set-else-workers-w : goal.overflow_mul-set-else-workers-w
+overflow_mul-set-else-workers-w c = omega (arith, small _ _ _ c.loop-w.invariant)
 
 pub loop-w-preserved : goal.loop-w-preserved
 loop-w-preserved c =
-    again c.args.workers _ _ c.loop-w.invariant c.loop-w-test.true false c.if-x.false _ (omega arith)
+    again c.args.workers _ _ c.loop-w.invariant c.loop-w-test.true false c.if-workers-w.false _ (omega arith)
 
 pub returns : goal.returns
 returns c =

@@ -14,6 +14,3 @@ pub record Inv (workers : List Worker) (set w : ℕ) : Type 0 where
 
 abbrev pub invariant-loop-w : goal.invariant-loop-w
 invariant-loop-w l = Inv l.workers l.set l.w
-
-abbrev pub decreases-loop-w : goal.decreases-loop-w
-decreases-loop-w l = l.w

@@ -1,5 +1,5 @@
 -- `soundness::holders::counts_right` meets its contract. The invariant: the counts of the threads below t are those of their statuses.
-use Prim.Native.Nat.{ℕ, ◌-◌}
+use Prim.Native.Nat.{ℕ}
 use mathlib.Core.List.{List}
 use mathlib.Core.Bool.{Bool}
 use lib.Dec.{eqb}

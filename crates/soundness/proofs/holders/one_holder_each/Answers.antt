@@ -19,6 +19,7 @@ use Rattle.order.proofs.Lists.{get_d_alike}
 use Rattle.soundness.specs.Code.Checks.{holders_wanted}
 use Rattle.order.proofs.Every.{all_cong}
 use Rattle.soundness.proofs.holders.one_holder_each.Invariants.{Inv, holders}
+use Rattle.soundness.proofs.holders.one_holder_each.Goals.{then-x+then-t-lt1024, then-x+else-t-lt1024, else-x}
 use Rattle.soundness.proofs.holders.one_holder_each.Goals as goal
 
 -- one more at place u
@@ -77,43 +78,30 @@ wanted n status workers counts w i h =
     let z : w ≡ 16 = omega (arith, i.within) in
     all_cong _ (one_holder status workers) n (λ t l. rw (i.counted t (omega (arith, i.small)), z))
 
-pub loop-w-init : goal.loop-w-init
-loop-w-init c = start _ c.args.workers _ c.requires refl
+pub loop-x-init : goal.loop-x-init
+loop-x-init c = start _ c.args.workers _ c.requires refl
 
 pub bounds-counts-t : goal.bounds-counts-t
 bounds-counts-t c = c.if-t-lt1024.true
 
 pub overflow_add-counts : goal.overflow_add-counts
 overflow_add-counts c =
-    omega (arith, few _ c.args.workers _ _ c.loop-w.invariant c.loop-w-test.true _ c.if-t-lt1024.true)
+    omega (arith, few _ c.args.workers _ _ c.loop-x.invariant c.loop-x-test.true _ c.if-t-lt1024.true)
 
 pub bounds-counts-t-then-t-lt1024 : goal.bounds-counts-t-then-t-lt1024
 bounds-counts-t-then-t-lt1024 c = c.if-t-lt1024.true
 
-pub loop-w-smaller-then-t-lt1024 : goal.loop-w-smaller-then-t-lt1024
-loop-w-smaller-then-t-lt1024 c = omega arith
-
-pub loop-w-preserved-then-t-lt1024 : goal.loop-w-preserved-then-t-lt1024
-loop-w-preserved-then-t-lt1024 c =
-    one _ c.args.workers _ _ c.loop-w.invariant c.loop-w-test.true c.if-x.true c.if-t-lt1024.true
-
-pub loop-w-smaller-else-t-lt1024 : goal.loop-w-smaller-else-t-lt1024
-loop-w-smaller-else-t-lt1024 c = omega arith
-
-pub loop-w-preserved-else-t-lt1024 : goal.loop-w-preserved-else-t-lt1024
-loop-w-preserved-else-t-lt1024 c =
-    beyond _ c.args.workers _ _ c.loop-w.invariant c.loop-w-test.true c.if-x.true c.if-t-lt1024.false
-
-pub loop-w-smaller : goal.loop-w-smaller
-loop-w-smaller c = omega arith
-
-pub loop-w-preserved : goal.loop-w-preserved
-loop-w-preserved c =
-    idle _ c.args.workers _ _ c.loop-w.invariant c.loop-w-test.true c.if-x.false
+pub loop-x-preserved : goal.loop-x-preserved
+loop-x-preserved c =
+    elim c.if-x.branch [
+      | then-x+then-t-lt1024 w ↦ rw w.counts-is (one _ c.args.workers _ _ c.loop-x.invariant c.loop-x-test.true w.if-x.true w.if-t-lt1024.true)
+      | then-x+else-t-lt1024 w ↦ rw w.counts-is (beyond _ c.args.workers _ _ c.loop-x.invariant c.loop-x-test.true w.if-x.true w.if-t-lt1024.false)
+      | else-x w ↦ rw w.counts-is (idle _ c.args.workers _ _ c.loop-x.invariant c.loop-x-test.true w.if-x.false)
+    ]
 
 pub counts_right-requires : goal.counts_right-requires
 counts_right-requires c = c.requires
 
 pub returns : goal.returns
 returns c =
-    c.counts_right.ensures ∙ wanted _ c.args.status.now c.args.workers _ _ c.loop-w.invariant c.loop-w-test.false
+    c.counts_right.ensures ∙ wanted _ c.args.status.now c.args.workers _ _ c.loop-x.invariant c.loop-x-test.false

@@ -1,6 +1,6 @@
 -- `soundness::holders::one_holder_each` meets its contract. The invariant: the counts are of the workers below w, so that none is above w.
 use mathlib.Core.Path.{◌≡◌}
-use Prim.Native.Nat.{ℕ, ◌-◌, ◌≤◌, ◌<◌}
+use Prim.Native.Nat.{ℕ, ◌≤◌, ◌<◌}
 use mathlib.Core.List.{List}
 use lib.ListN.{length, get_or}
 use Rattle.schedule.specs.declared.Worker.{Worker}
@@ -18,8 +18,5 @@ pub record Inv (n : ℕ) (workers : List Worker) (counts : List ℕ) (w : ℕ) :
   pub room : length counts ≡ 1024
   pub counted : (t : ℕ) → t < 1024 → get_or counts t 0 ≡ holders workers t w
 
-abbrev pub invariant-loop-w : goal.invariant-loop-w
-invariant-loop-w l = Inv l.n l.workers l.counts l.w
-
-abbrev pub decreases-loop-w : goal.decreases-loop-w
-decreases-loop-w l = 16 - l.w
+abbrev pub invariant-loop-x : goal.invariant-loop-x
+invariant-loop-x l = Inv l.n l.x-items l.counts l.x-index

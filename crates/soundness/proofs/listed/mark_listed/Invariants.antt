@@ -1,6 +1,6 @@
 -- `soundness::listed::mark_listed` meets its contract. The invariant: the marked threads are those in the first i places, and all of them are below n.
 use mathlib.Core.Path.{◌≡◌}
-use Prim.Native.Nat.{ℕ, ◌-◌, ◌≤◌}
+use Prim.Native.Nat.{ℕ, ◌≤◌}
 use mathlib.Core.List.{List}
 use mathlib.Core.Bool.{Bool, true, false}
 use lib.Dec.{ltb}

@@ -1,5 +1,5 @@
 -- `soundness::listed::marks_right` meets its contract. The invariant: the threads below t are marked if they are live.
-use Prim.Native.Nat.{ℕ, ◌-◌}
+use Prim.Native.Nat.{ℕ}
 use mathlib.Core.List.{List}
 use mathlib.Core.Bool.{Bool, false}
 use lib.ListN.{get_or}

@@ -1,5 +1,5 @@
 -- `soundness::numbers::advance` meets its contract. The invariant: the walk has come to action a, which is at most `to`.
-use Prim.Native.Nat.{ℕ, ◌-◌, ◌≤◌}
+use Prim.Native.Nat.{ℕ, ◌≤◌}
 use mathlib.Core.List.{List}
 use Rattle.table.specs.Format.{table_of}
 use Rattle.table.specs.Checks.{owner}

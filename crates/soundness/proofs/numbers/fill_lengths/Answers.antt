@@ -46,9 +46,6 @@ module _ (T : Table) (n : ℕ) (lengths : List ℕ) (t : ℕ) (i : Inv T n lengt
 pub loop-t-init : goal.loop-t-init
 loop-t-init c = start c.args.lengths.now c.requires.accepted c.requires.lengths_len
 
-pub overflow_sub-t : goal.overflow_sub-t
-overflow_sub-t c = omega arith
-
 pub thread_length-total-requires : goal.thread_length-total-requires
 thread_length-total-requires c = let i = c.loop-t.invariant in record { accepted = c.requires.accepted; t_lt_n = omega (arith, i.within, c.loop-t-test.true); lengths = above _ _ _ _ i c.loop-t-test.true }
 
@@ -60,9 +57,6 @@ offset_bounds-lengths-t c = omega (arith, c.loop-t.invariant)
 
 pub bounds-lengths-t : goal.bounds-lengths-t
 bounds-lengths-t c = omega (arith, c.loop-t.invariant, c.loop-t-test.true)
-
-pub loop-t-smaller : goal.loop-t-smaller
-loop-t-smaller c = omega (arith, c.loop-t-test.true)
 
 pub loop-t-preserved : goal.loop-t-preserved
 loop-t-preserved c = again _ _ _ _ c.loop-t.invariant c.loop-t-test.true _ c.thread_length-total.ensures.value

@@ -12,6 +12,3 @@ pub record Inv (T : Table) (n : ℕ) (lengths : List ℕ) (t : ℕ) : Type 0 whe
 
 abbrev pub invariant-loop-t : goal.invariant-loop-t
 invariant-loop-t l = Inv (table_of l.table) l.n l.lengths l.t
-
-abbrev pub decreases-loop-t : goal.decreases-loop-t
-decreases-loop-t l = l.t

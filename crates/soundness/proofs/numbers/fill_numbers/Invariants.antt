@@ -1,5 +1,4 @@
 -- `soundness::numbers::fill_numbers` meets its contract. The invariant: the walk has come to thread t, whose body begins at `first`.
-use Prim.Native.Nat.{◌-◌}
 use Rattle.table.specs.Format.{table_of}
 use Rattle.soundness.specs.Code.Order.{Numbering}
 use Rattle.soundness.proofs.numbers.fill_numbers.Given as goal

@@ -1,17 +1,19 @@
 -- `soundness::numbers::span` meets its contract: an action comes alone, or with the child that it forks, whose thread is above its own.
-use mathlib.Core.Path.{◌≡◌}
+use mathlib.Core.Path.{◌≡◌, sym, ◌∙◌}
 use Prim.Native.Nat.{ℕ, ◌+◌, ◌≤◌, ◌<◌}
 use mathlib.Core.List.{List}
 use native.Mathlib.Omega.{arith}
 use lib.ListN.{length, get_or}
 use Rattle.table.specs.Format.{kind, table_of}
+use Rattle.table.specs.declared.kinds.Kind.{Kind}
 use Rattle.table.specs.declared.kinds.Kind.TheVariants.{Fork as fork}
+use Rattle.table.proofs.Tests.{other_is}
 use Rattle.table.specs.Checks.{owner}
 use Rattle.table.specs.Serial.{serial}
 use Rattle.order.proofs.Lawful.{Lawful}
 use Rattle.soundness.specs.Code.Checks.{Accepted, Lengths}
 use Rattle.soundness.specs.Code.Order.{Inside}
-use Rattle.soundness.proofs.Lookups.{accepted_lawful, code_read, argument_read, fork_code, not_fork}
+use Rattle.soundness.proofs.Lookups.{accepted_lawful, kind_read, argument_read}
 use Rattle.soundness.proofs.Spans.{inside_fork, span_step, span_fork, child_small}
 use Rattle.soundness.proofs.numbers.span.Goals.{After-argument}
 use Rattle.soundness.proofs.numbers.span.Goals as goal
@@ -27,12 +29,12 @@ module _ (s : List ℕ) (n a : ℕ) (lengths : List ℕ)
   lawful : Lawful (table_of s)
   lawful = accepted_lawful p.0
 
-  alone : (k : ℕ) → k ≡ (table_of s).code a → (k ≡ 4 → ⊥) → length (serial (table_of s) a) ≡ 1 + length (serial (table_of s) (a + 1))
-  alone k e d = span_step (table_of s) lawful _ a p.1.0 (rw e at (not_fork d))
+  alone : (k : Kind) → k ≡ kind (table_of s) a → (k ≡ fork → ⊥) → length (serial (table_of s) a) ≡ 1 + length (serial (table_of s) (a + 1))
+  alone k e d = span_step (table_of s) lawful _ a p.1.0 (rw e at (other_is fork k d))
 
-  forked : (k x : ℕ) → k ≡ (table_of s).code a → k ≡ 4 → x ≡ (table_of s).argument a → Forked s a x lengths
+  forked : (k : Kind) (x : ℕ) → k ≡ kind (table_of s) a → k ≡ fork → x ≡ (table_of s).argument a → Forked s a x lengths
   forked k x e d r =
-      let forks : kind (table_of s) a ≡ fork = rw e at (fork_code d) in
+      let forks : kind (table_of s) a ≡ fork = sym e ∙ d in
       let (above, below) = inside_fork (table_of s) lawful _ a p.1.0 forks in
       let known = p.1.1.right ((table_of s).argument a) (omega arith) below in
       rw r
@@ -42,14 +44,14 @@ module _ (s : List ℕ) (n a : ℕ) (lengths : List ℕ)
         both = rw known (span_fork (table_of s) lawful _ a p.1.0 forks);
       })
 
-pub returns-then-code-ne-FORK : goal.returns-then-code-ne-FORK
-returns-then-code-ne-FORK c =
-    alone c.args.table.now _ _ c.args.lengths.now (c.requires.accepted, (c.requires.inside, c.requires.lengths)) _ (code_read c.requires.accepted _ c.code.ensures) c.if-code-ne-FORK.true
+pub returns-in_default : goal.returns-in_default
+returns-in_default c =
+    alone c.args.table.now _ _ c.args.lengths.now (c.requires.accepted, (c.requires.inside, c.requires.lengths)) _ (kind_read c.requires.accepted _ c.kind.ensures) c.in_default.not-Fork
 
 at_fork : (c : After-argument) → Forked c.args.table.now c.args.a c.argument.result
     c.args.lengths.now
 at_fork c =
-    forked c.args.table.now _ _ c.args.lengths.now (c.requires.accepted, (c.requires.inside, c.requires.lengths)) _ _ (code_read c.requires.accepted _ c.code.ensures) c.if-code-ne-FORK.false (argument_read c.requires.accepted _ c.argument.ensures).value
+    forked c.args.table.now _ _ c.args.lengths.now (c.requires.accepted, (c.requires.inside, c.requires.lengths)) _ _ (kind_read c.requires.accepted _ c.kind.ensures) c.in-Fork.is (argument_read c.requires.accepted _ c.argument.ensures).value
 
 pub bounds-lengths-argument : goal.bounds-lengths-argument
 bounds-lengths-argument c = (at_fork (goal.at.bounds-lengths-argument c).After-argument).below
@@ -60,5 +62,5 @@ overflow_cast-result c = omega (arith, (at_fork (goal.at.overflow_cast-result c)
 pub overflow_add-result : goal.overflow_add-result
 overflow_add-result c = omega (arith, (at_fork (goal.at.overflow_add-result c).After-argument).child)
 
-pub returns : goal.returns
-returns c = (at_fork (goal.at.returns c).After-argument).both
+pub returns-in-Fork : goal.returns-in-Fork
+returns-in-Fork c = (at_fork (goal.at.returns-in-Fork c).After-argument).both

@@ -1,6 +1,6 @@
 -- `soundness::numbers::thread_length` meets its contract. The invariant: what is counted and what is left from action a on are one more than the whole thread.
 use mathlib.Core.Path.{◌≡◌}
-use Prim.Native.Nat.{ℕ, ◌+◌, ◌-◌, ◌≤◌, ◌<◌}
+use Prim.Native.Nat.{ℕ, ◌+◌, ◌≤◌, ◌<◌}
 use mathlib.Core.List.{List}
 use lib.ListN.{length}
 use Rattle.table.specs.Format.{table_of}

@@ -1,4 +1,3 @@
-use native.Mathlib.Omega.{arith}
 use Rattle.soundness.proofs.Lookups.{accepted_body}
 use Rattle.soundness.proofs.Clearing.{clearing_starts, clearing_enters, clearing_asks, clearing_goes, clearing_leaves, clearing_ends}
 use Rattle.soundness.proofs.shares.clear_joined.Goals as goal

@@ -1,5 +1,4 @@
 -- `soundness::shares::clear_joined` meets its contract. The invariants: the threads joined below thread t's actions, or below action a of it, are cleared.
-use Prim.Native.Nat.{◌-◌}
 use Rattle.soundness.proofs.Clearing.{Clearing, ClearingIn}
 use Rattle.soundness.proofs.shares.clear_joined.Given as goal
 

@@ -49,9 +49,6 @@ loop-t-init c =
     start c.args.table.now _ c.args.next.now c.args.status.now c.args.balances.now c.requires.accepted c.requires.status_value
     (λ i. omega (arith, c.type_inv.table i)) c.requires.balances_value
 
-pub overflow_sub-t : goal.overflow_sub-t
-overflow_sub-t c = omega arith
-
 pub done_to-stop-requires : goal.done_to-stop-requires
 done_to-stop-requires c = omega (arith, c.loop-t.invariant.few, c.loop-t.invariant.within, c.loop-t-test.true)
 
@@ -64,9 +61,6 @@ offset_bounds-balances-t c = omega (arith, c.loop-t.invariant.few, c.loop-t.inva
 
 pub bounds-balances-t : goal.bounds-balances-t
 bounds-balances-t c = omega (arith, c.loop-t.invariant.few, c.loop-t.invariant.within, c.loop-t-test.true)
-
-pub loop-t-smaller : goal.loop-t-smaller
-loop-t-smaller c = omega (arith, c.loop-t-test.true)
 
 pub loop-t-preserved : goal.loop-t-preserved
 loop-t-preserved c =

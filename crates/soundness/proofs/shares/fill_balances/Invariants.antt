@@ -19,6 +19,3 @@ pub record Inv (s : List ℕ) (n : ℕ) (next status balances : List ℕ) (t : �
 
 abbrev pub invariant-loop-t : goal.invariant-loop-t
 invariant-loop-t l = Inv l.table l.n l.next l.status l.balances l.t
-
-abbrev pub decreases-loop-t : goal.decreases-loop-t
-decreases-loop-t l = l.t

@@ -1,5 +1,4 @@
 -- `soundness::shares::thread_balance` meets its contract. The invariant: the sum is what the thread's actions below a come to.
-use Prim.Native.Nat.{◌-◌}
 use Rattle.soundness.specs.Code.Balancing.{Balancing, Balanced}
 use Rattle.soundness.proofs.shares.thread_balance.Given as goal
 

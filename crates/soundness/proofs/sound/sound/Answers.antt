@@ -1,39 +1,50 @@
 -- `soundness::sound::sound` meets its contract: a record is sound where its parts are and its table is a copy of the bytes in use.
+use Rattle.std.specs.Prelude.{Option, None, Some}
 use mathlib.Core.Path.{◌≡◌, sym, ◌∙◌}
 use Prim.Native.Nat.{ℕ, ◌≤◌}
 use mathlib.Core.List.{List}
 use mathlib.Core.Bool.{Bool, true, false}
 use native.Mathlib.Omega.{arith}
 use borrow.Author.Rules.{rules}
-use lib.ListN.{length, replicate}
+use lib.ListN.{length}
 use lib.Seq.{length-take-le}
+use Rattle.table.specs.Sum.{pick}
 use Rattle.schedule.specs.declared.Run.{Run}
 use Rattle.schedule.specs.Record.{bytes_of, table_in, links_in}
 use Rattle.schedule.specs.Sound.{sound}
-use Rattle.soundness.specs.declared.Tested.{Tested}
 use Rattle.soundness.specs.Code.Checks.{copy_sound}
-use Rattle.soundness.specs.Tested.{parents_if, sound_on}
+use Rattle.soundness.specs.Tested.{parents_in, parents_if, sound_on}
 use Rattle.soundness.proofs.Chains.{skip, last}
 use Rattle.soundness.proofs.OnParts.{sound_is}
 use Rattle.soundness.proofs.sound.sound.Goals.{Else-not-copy_sound, Start}
 use Rattle.soundness.proofs.sound.sound.Goals as goal
 
 module _ (r : Run) where
-  abbrev answer : Tested
-  answer = record { passed = sound r; parents = parents_if (sound r) (table_in r) }
+  abbrev answer : Option (List ℕ)
+  answer = pick {A = Option (List ℕ)} (sound r) (Some (parents_in (table_in r))) None
 
   abbrev parts : Bool
   parts = sound_on (bytes_of r) r.workers r.quota r.next r.status r.amounts (links_in r) r.worker r.busy r.held r.highest r.turns
 
-  no_copy : copy_sound r ≡ false → record { passed = false; parents = replicate 1024 0 } ≡ answer
+  no_copy : copy_sound r ≡ false → None ≡ answer
   no_copy e =
       let h : sound r ≡ false = sound_is r ∙ sym (skip parts (sym e)) in
       rw h
 
-  by_parts : copy_sound r ≡ true → {q : Bool} {l : List ℕ} → q ≡ parts → l ≡ parents_if q (table_in r) → record { passed = q; parents = l } ≡ answer
-  by_parts e {q} h d =
-      let k : q ≡ sound r = last parts h e ∙ sym (sound_is r) in
-      rw (d, k)
+  -- by what the test of the parts says, q, and the parents that it leaves, l
+  module _ (e : copy_sound r ≡ true) {q : Bool} (h : q ≡ parts) where
+    same : q ≡ sound r
+    same = last parts h e ∙ sym (sound_is r)
+
+    right : (l : List ℕ) → l ≡ parents_if q (table_in r) → q ≡ true → Some l ≡ answer
+    right l d t =
+        let k : sound r ≡ true = sym same ∙ t in
+        rw (d, t, k)
+
+    wrong : q ≡ false → None ≡ answer
+    wrong t =
+        let k : sound r ≡ false = sym same ∙ t in
+        rw k
 
 table_size : (c : Start) → length c.args.run.table ≡ 36868
 table_size c = search rules
@@ -53,6 +64,10 @@ slice_bounds-bytes-end c =
     sym (length-take-le c.args.run.length c.args.run.table
     (omega (arith, bounds (goal.at.slice_bounds-bytes-end c).Else-not-copy_sound, table_size (goal.at.slice_bounds-bytes-end c).Start)))
 
-pub returns : goal.returns
-returns c =
-    by_parts c.args.run (sym c.copy_sound.ensures.value ∙ c.if-not-copy_sound.false) c.test_in-passed.ensures.value c.test_in-passed.ensures.parents_after
+pub returns-then-passed : goal.returns-then-passed
+returns-then-passed c =
+    right c.args.run (sym c.copy_sound.ensures.value ∙ c.if-not-copy_sound.false) c.test_in-passed.ensures.value _ c.test_in-passed.ensures.parents_after c.if-passed.true
+
+pub returns-else-passed : goal.returns-else-passed
+returns-else-passed c =
+    wrong c.args.run (sym c.copy_sound.ensures.value ∙ c.if-not-copy_sound.false) c.test_in-passed.ensures.value c.if-passed.false

@@ -1,5 +1,4 @@
 use mathlib.Core.Path.{refl}
-use native.Mathlib.Omega.{arith}
 use Rattle.order.proofs.Every.{from_none}
 use Rattle.soundness.proofs.Filled.{is_zero, rest_more, rest_fails, rest_pass}
 use Rattle.soundness.proofs.unused.bytes_rest.Goals as goal

@@ -1,6 +1,4 @@
 -- `soundness::unused::bytes_rest` meets its contract. The invariant: the places from `used` to i are 0.
-use Prim.Native.Nat.{◌-◌}
-use lib.ListN.{length}
 use Rattle.order.proofs.Every.{PassedFrom}
 use Rattle.soundness.proofs.Filled.{is_zero}
 use Rattle.soundness.proofs.unused.bytes_rest.Given as goal

@@ -1,5 +1,4 @@
 -- `soundness::unused::unused_right` meets its contract. The invariant: the threads from n to t are unborn with next action 0.
-use Prim.Native.Nat.{◌-◌}
 use Rattle.schedule.specs.Sound.{unused}
 use Rattle.order.proofs.Every.{PassedFrom}
 use Rattle.soundness.proofs.unused.unused_right.Given as goal

@@ -1,8 +1,5 @@
 -- `wivakkol_marks::copies::load` meets its contract: each block is the stretch of its width, and is mended.
-use mathlib.Core.Path.{◌≡◌, ◌∙◌}
-use native.Mathlib.Omega.{arith}
-use lib.ListN.{length}
-use borrow.Author.Rules.{rules}
+use mathlib.Core.Path.{◌∙◌}
 use Rattle.wivakkol_marks.proofs.Stretches.{stretch_out, loads}
 use Rattle.wivakkol_marks.proofs.copies.load.Goals as goal
 
@@ -10,7 +7,7 @@ pub returns : goal.returns
 returns c =
     let a = c.args in
     loads a.i a.markbytes.now a.markwords.now a.marknumbers.now a.marksums.now
-    (c.copy_bytes.ensures ∙ stretch_out 1040 a.i a.bytes.now a.markbytes.now (omega arith))
-    (c.copy_words.ensures ∙ stretch_out 6163 a.i a.words.now a.markwords.now (omega arith))
-    (c.copy_numbers.ensures ∙ stretch_out 18 a.i a.numbers.now a.marknumbers.now (omega arith))
-    (c.copy_sums.ensures ∙ stretch_out 1027 a.i a.sums.now a.marksums.now (omega arith)) c.mend.ensures
+    (c.copy_from_slice.ensures.after ∙ stretch_out 1040 a.i a.markbytes.now)
+    (c.copy_from_slice-2.ensures.after ∙ stretch_out 6163 a.i a.markwords.now)
+    (c.copy_from_slice-3.ensures.after ∙ stretch_out 18 a.i a.marknumbers.now)
+    (c.copy_from_slice-4.ensures.after ∙ stretch_out 1027 a.i a.marksums.now) c.mend.ensures
