@@ -28,7 +28,7 @@ pub fn same(a: &[u8], b: &[u8]) -> bool
     a == b
 }
 
-// A kind's code, 6 for `thread`, 7 for any other word.
+// A kind's code, 6 for `thread`, 7 for any other word: the numbers of `code_of_word`, on which the theorems about texts rest.
 pub(crate) fn keyword(w: &[u8]) -> u8
     ensures { result ≡ code_of_word w.now }
 {
