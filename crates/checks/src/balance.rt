@@ -86,7 +86,7 @@ pub(crate) fn balances(
         }
     }
     match lowest {
-        Some(a) => Err(Refusal::new(10, a)),
+        Some(a) => Err(Refusal::new(10, a as u16)),
         None => Ok(()),
     }
 }

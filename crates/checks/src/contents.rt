@@ -24,12 +24,12 @@ pub(crate) fn contents(table: &[u8], n: usize, m: usize) -> Result<(), Refusal>
         let first = first(table, t);
         let count = count(table, t);
         if entry_wrong(first, count, sum) {
-            return Err(Refusal::new(4, t));
+            return Err(Refusal::new(4, t as u16));
         }
         sum += count;
     }
     if sum != m {
-        return Err(Refusal::new(4, n));
+        return Err(Refusal::new(4, n as u16));
     }
     Ok(())
 }

@@ -94,7 +94,7 @@ pub(crate) fn first_pass(table: &[u8], n: usize, m: usize) -> Result<(), Refusal
         let last = a + 1 == span.stop;
         let broken = form_at(action.kind(), span.own, n, action.argument, last);
         if let Some(number) = broken {
-            return Err(Refusal::new(number, a));
+            return Err(Refusal::new(number, a as u16));
         }
     }
     Ok(())

@@ -3,8 +3,8 @@ ghost use Rattle.std.specs.Prelude.{◌≡◌, ◌||◌};
 ghost use Rattle.table.specs.Pass.{try_pass};
 ghost use Rattle.table.specs.Checks.{head_pass, outside as is_outside};
 
-use table::{Refusal, outside};
 use table::read::{actions, threads};
+use table::{Refusal, outside};
 
 fn out_of_range(n: usize, m: usize) -> bool
     ensures { result ≡ (is_outside 1 1024 n || is_outside 1 8192 m) }

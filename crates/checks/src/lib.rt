@@ -18,8 +18,8 @@ use contents::contents;
 use forms::first_pass;
 use head::head;
 use nest::nesting;
-use table::read::{actions, threads};
 use table::Refusal;
+use table::read::{actions, threads};
 
 // Of any bytes: the check that refuses them, if one does.
 pub fn check(table: &[u8]) -> Result<(), Refusal>
@@ -31,7 +31,11 @@ pub fn check(table: &[u8]) -> Result<(), Refusal>
 }
 
 // The same in lent working memory, which may hold anything and is left cleared.
-pub fn check_in(table: &[u8], rises: &mut [u64; 1024], falls: &mut [u64; 1024]) -> Result<(), Refusal>
+pub fn check_in(
+    table: &[u8],
+    rises: &mut [u64; 1024],
+    falls: &mut [u64; 1024],
+) -> Result<(), Refusal>
     ensures value { result ≡ first_found (passes table.now) }
     ensures rises_after { (rises.new ≡ replicate 1024 0) × (falls.new ≡ replicate 1024 0) }
 {

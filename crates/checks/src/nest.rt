@@ -12,7 +12,13 @@ use table::read::{action_in, bodies};
 
 // One action. The open children stand in `stack` from `top` on, the latest first; `forked` marks the threads forked so far. Answers where the stack then begins, or the check that the action
 // breaks.
-fn nest_at(kind: Kind, x: usize, top: usize, stack: &mut [u64; 1024], forked: &mut [bool; 1024]) -> Result<usize, u8>
+fn nest_at(
+    kind: Kind,
+    x: usize,
+    top: usize,
+    stack: &mut [u64; 1024],
+    forked: &mut [bool; 1024],
+) -> Result<usize, u8>
     requires { NestReady kind x top stack.old forked.old }
     ensures { NestDone kind x top stack.old forked.old (broken result) (top_after top result) stack.new forked.new }
 {
@@ -65,7 +71,7 @@ fn second_pass(
         let action = action_in(actions, a);
         let next = nest_at(action.kind(), action.argument, top, stack, forked);
         top = match next {
-            Err(number) => return Err(Refusal::new(number, a)),
+            Err(number) => return Err(Refusal::new(number, a as u16)),
             Ok(after) => after,
         };
     }
@@ -79,14 +85,19 @@ fn never_forked(n: usize, forked: &[bool; 1024]) -> Result<(), Refusal>
 {
     for t in 1..n {
         if !forked[t] {
-            return Err(Refusal::new(11, t));
+            return Err(Refusal::new(11, t as u16));
         }
     }
     Ok(())
 }
 
 // The open children are kept in `stack`, whatever it held.
-pub(crate) fn nesting(table: &[u8], n: usize, m: usize, stack: &mut [u64; 1024]) -> Result<(), Refusal>
+pub(crate) fn nesting(
+    table: &[u8],
+    n: usize,
+    m: usize,
+    stack: &mut [u64; 1024],
+) -> Result<(), Refusal>
     requires { Formed table.now n m }
     ensures { result ≡ or_else (try_pass (second_pass (table_of table.now))) (try_pass (forked_pass (table_of table.now))) }
 {

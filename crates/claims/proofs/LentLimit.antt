@@ -39,10 +39,9 @@ use Rattle.schedule.proofs.Runs.Histories.{calls_traced}
 use Rattle.schedule.proofs.Runs.Values.{turn_values_lem}
 use Rattle.bounds.proofs.Limit.{MemoryLimit, memory_limit}
 use Rattle.bounds.proofs.ThreadLimit.{ThreadLimit, thread_limit_lem}
-use Rattle.filling.specs.declared.Filling.{Filling}
 use Rattle.filling.specs.Filled.{filled_out}
 use Rattle.filling.specs.Filling.{filled_into}
-use Rattle.soundness.specs.Tested.{begin_found, begin_filling, begun_into}
+use Rattle.soundness.specs.Tested.{Filling, begin_found, begin_filling, begun_into}
 use Rattle.soundness.proofs.Fillings.{given_runs, front_is_lem}
 use Rattle.soundness.proofs.Chains.{never}
 use Rattle.soundness.proofs.Noting.{parents_right}

@@ -1,5 +1,5 @@
 -- What the checks' inner functions promise: one step of a pass, and the walk over one body.
-use Rattle.std.specs.Prelude.{◌≡◌, ℕ, zero, suc, ◌+◌, ◌≤◌, ◌<◌, List, ◌∷◌, Bool, true, false, not, ◌&&◌, length, get_or, set, drop, ltb, Err, Ok, Result, None, Some, Option, ⊤}
+use Rattle.std.specs.Prelude.{◌≡◌, ℕ, zero, suc, ◌+◌, ◌≤◌, ◌<◌, List, ◌∷◌, Bool, true, false, not, length, get_or, set, drop, ltb, Err, Ok, Result, None, Some, Option, ⊤}
 use Rattle.table.specs.declared.Refusal.{Refusal}
 use Rattle.table.specs.Sum.{pick, sum_to}
 use Rattle.table.specs.Format.{is, Table}

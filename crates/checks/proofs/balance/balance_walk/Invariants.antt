@@ -1,7 +1,7 @@
 -- `checks::balance::balance_walk` meets its contract. The invariant: rise and fall are the sums up to action i, and below is the least action before i at which the body is overdrawn.
 use Rattle.std.specs.Prelude.{Option}
 use mathlib.Core.Path.{◌≡◌}
-use Prim.Native.Nat.{ℕ, ◌-◌, ◌≤◌}
+use Prim.Native.Nat.{ℕ, ◌≤◌}
 use mathlib.Core.List.{List}
 use Rattle.table.specs.Sum.{sum_to}
 use Rattle.table.specs.declared.kinds.Kind.TheVariants.{Alloc as alloc, Free as free, Join as join}

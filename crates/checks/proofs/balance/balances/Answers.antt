@@ -1,17 +1,15 @@
-use Rattle.std.specs.Prelude.{Err, Ok, Result, None, Some, Option, ⊤}
+use Rattle.std.specs.Prelude.{Err, Result, None, Some, Option, ⊤}
 use Rattle.table.specs.declared.Refusal.{Refusal}
 use mathlib.Core.Path.{◌≡◌, refl, sym, ap, ◌∙◌}
 use Prim.Native.Nat.{ℕ, suc, ◌+◌, ◌-◌, ◌*◌, ◌<◌, ◌≤◌}
 use mathlib.Core.List.{List}
 use native.Mathlib.Omega.{arith}
-use borrow.Author.Tests.{lt-ltb, le-ltb}
-use lib.Dec.{ltb}
 use lib.ListN.{length, get_or, set, drop}
-use Rattle.table.specs.Sum.{pick, sum_to}
+use Rattle.table.specs.Sum.{sum_to}
 use Rattle.table.specs.Format.{kind, bodies_from, body_of, table_of, first_of, count_of, own_amount}
 use Rattle.table.specs.declared.kinds.Kind.{Kind}
 use Rattle.table.specs.declared.kinds.Kind.TheVariants.{Alloc as alloc, Free as free, Join as join}
-use Rattle.table.specs.Pass.{try_from, try_pass, or_else, refusal}
+use Rattle.table.specs.Pass.{try_from, try_pass, or_else}
 use Rattle.table.specs.Checks.{counts_below, alloc_of, free_of, whole, part_of, balance, balance_below0, balance_pass}
 use Rattle.table.specs.Rules.{ContentRules, BodyRules}
 use Rattle.table.specs.Code.Steps.{Nested, Filled, WalkReady, amount_at}
@@ -212,8 +210,8 @@ pub loop-t-preserved : goal.loop-t-preserved
 loop-t-preserved c =
     same (turn (goal.at.loop-t-preserved c).After-body_of-body) _ c.balance_walk-w.ensures c.in_default.is
 
-pub new-requires : goal.new-requires
-new-requires c = omega (arith, c.loop-t.invariant.inside _ c.in-Some-lowest.is, c.loop-t.invariant.sizes)
+pub overflow_cast-a : goal.overflow_cast-a
+overflow_cast-a c = omega (arith, c.loop-t.invariant.inside _ c.in-Some-lowest.is, c.loop-t.invariant.sizes)
 
 pub returns-in-Some-lowest : goal.returns-in-Some-lowest
 returns-in-Some-lowest c = ends c.loop-t.invariant c.loop-t-test.false (ap Err c.new.ensures ∙ rw c.in-Some-lowest.is)

@@ -3,11 +3,9 @@ use Rattle.std.specs.Prelude.{Some, Option}
 use mathlib.Core.Path.{◌≡◌}
 use Prim.Native.Nat.{ℕ, ◌-◌, ◌<◌, ◌≤◌}
 use mathlib.Core.List.{List}
-use lib.Dec.{ltb}
 use lib.ListN.{get_or}
-use Rattle.table.specs.Sum.{pick}
 use Rattle.table.specs.Format.{table_of}
-use Rattle.table.specs.Pass.{try_from, refusal}
+use Rattle.table.specs.Pass.{try_from}
 use Rattle.table.specs.Checks.{counts_below, alloc_of, free_of, whole, balance_pass}
 use Rattle.table.specs.Code.Steps.{Nested, Filled}
 use Rattle.table.proofs.Sizes.{Sizes}

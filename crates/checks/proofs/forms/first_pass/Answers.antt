@@ -1,6 +1,6 @@
 use Rattle.std.specs.Prelude.{Err, Ok, None, Some, Option}
 use mathlib.Core.Path.{◌≡◌, refl, sym, ap, ◌∙◌}
-use Prim.Native.Nat.{ℕ, zero, suc, pred, ◌+◌, ◌<◌}
+use Prim.Native.Nat.{ℕ, pred, ◌+◌, ◌<◌}
 use mathlib.Core.List.{List}
 use mathlib.Core.Bool.{Bool, true, false, not}
 use native.Mathlib.Omega.{arith}

@@ -1,11 +1,8 @@
 -- `checks::forms::form_at` meets its contract: each arm's number is the definition's at that kind.
-use mathlib.Core.Path.{◌≡◌, refl, sym, ◌∙◌}
-use Prim.Native.Nat.{ℕ}
+use mathlib.Core.Path.{◌≡◌}
 use mathlib.Core.Logic.{◌⊎◌, inl, inr}
 use Rattle.table.specs.declared.kinds.Kind.TheVariants.{Alloc as alloc, Free as free, Fork as fork, Join as join}
-use mathlib.Core.Bool.{Bool, not, ◌&&◌}
 use borrow.Author.Tests.{eq-eqb, ne_eqb}
-use lib.Dec.{ltb, leb, eqb}
 use Rattle.table.specs.Format.{code_of, is}
 use Rattle.checks.specs.Code.Steps.{form_at}
 use Rattle.checks.proofs.forms.form_at.Goals as goal

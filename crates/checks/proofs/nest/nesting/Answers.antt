@@ -1,6 +1,6 @@
 -- `checks::nest::nesting` meets its contract: where the second pass finds nothing, the marks that it leaves are the threads forked, so that the threads without one are
 -- those of check 11.
-use Rattle.std.specs.Prelude.{Err, Ok}
+use Rattle.std.specs.Prelude.{Ok}
 use mathlib.Core.Path.{◌≡◌, sym, ◌∙◌}
 use Prim.Native.Nat.{ℕ, pred}
 use mathlib.Core.List.{List, [], ◌∷◌}
@@ -12,7 +12,6 @@ use Rattle.table.specs.Pass.{try_from, try_pass, or_else}
 use Rattle.table.specs.Checks.{forked_below, never_forked, second_pass, forked_pass}
 use Rattle.table.specs.Code.Steps.{Formed}
 use Rattle.checks.specs.Code.Steps.{unmarked}
-use Rattle.table.specs.declared.Refusal.{Refusal}
 use Rattle.table.proofs.Sizes.{sizes}
 use Rattle.std.proofs.lemmas.Result.{err_from_is_err_and}
 use Rattle.checks.proofs.nest.nesting.Goals as goal

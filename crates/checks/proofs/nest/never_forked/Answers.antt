@@ -37,8 +37,8 @@ loop-t-init c = start _ c.args.forked.now c.requires
 pub bounds-forked-t : goal.bounds-forked-t
 bounds-forked-t c = omega arith
 
-pub new-requires : goal.new-requires
-new-requires c = omega arith
+pub overflow_cast-t : goal.overflow_cast-t
+overflow_cast-t c = omega arith
 
 pub returns-then-not-forked-t : goal.returns-then-not-forked-t
 returns-then-not-forked-t c =

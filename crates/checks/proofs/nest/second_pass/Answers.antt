@@ -1,5 +1,4 @@
-use Rattle.std.specs.Prelude.{Err, Ok, Result, None, Some, Option, ⊤}
-use Rattle.table.specs.declared.Refusal.{Refusal}
+use Rattle.std.specs.Prelude.{Err, Ok, None, Some, Option}
 use mathlib.Core.Path.{◌≡◌, refl, sym, ap, ◌∙◌}
 use Prim.Native.Nat.{ℕ, ◌+◌, ◌<◌, ◌≤◌}
 use mathlib.Core.List.{List}
@@ -13,7 +12,7 @@ use Rattle.table.specs.declared.kinds.Kind.TheVariants.{Fork as fork}
 use Rattle.table.specs.Pass.{try_pass, refusal}
 use Rattle.table.specs.Checks.{second_pass, forked_below}
 use Rattle.table.specs.Code.Steps.{Formed}
-use Rattle.checks.specs.Code.Steps.{nest, nest_at, broken, top_after, NestReady, NestDone}
+use Rattle.checks.specs.Code.Steps.{nest, nest_at, broken, NestReady, NestDone}
 use Rattle.table.proofs.Tests.{no_way}
 use Rattle.table.proofs.Trying.{try_from_next, try_from_here, try_from_last, try_from_all}
 use Rattle.table.proofs.Sizes.{sizes}
@@ -110,8 +109,8 @@ nest_at-next-requires c =
     let i = c.loop-a.invariant in
     ready i.0 (omega (arith, i.1, c.loop-a-test.true)) (c.kind.ensures ∙ ap kind_of c.action_in-action.ensures.code_value) c.action_in-action.ensures.read.value
 
-pub new-requires : goal.new-requires
-new-requires c = omega (arith, c.loop-a.invariant.0.sizes)
+pub overflow_cast-a : goal.overflow_cast-a
+overflow_cast-a c = omega (arith, c.loop-a.invariant.0.sizes)
 
 pub returns-in-Err : goal.returns-in-Err
 returns-in-Err c = record {
@@ -124,9 +123,11 @@ returns-in-Err c = record {
 pub loop-a-preserved : goal.loop-a-preserved
 loop-a-preserved c =
     let i = c.loop-a.invariant in
-    let r = c.in-Ok.is in
-    (again i.0 (omega (arith, i.1, c.loop-a-test.true)) (c.kind.ensures ∙ ap kind_of c.action_in-action.ensures.code_value) c.action_in-action.ensures.read.value
-    (rw r at c.nest_at-next.ensures) refl, i.1)
+    let r = c.in-Ok.is in (
+      again i.0 (omega (arith, i.1, c.loop-a-test.true)) (c.kind.ensures ∙ ap kind_of c.action_in-action.ensures.code_value) c.action_in-action.ensures.read.value
+          (rw r at c.nest_at-next.ensures) refl,
+      i.1,
+    )
 
 pub returns : goal.returns
 returns c = let i = c.loop-a.invariant in record { value = none i.0 (omega (arith, i.1, c.loop-a-test.false)); false_after = λ e. marks i.0 (omega (arith, i.1, c.loop-a-test.false)) }
