@@ -26,7 +26,7 @@ use Rattle.quota.specs.Quota.{quoted, QuotaValues, values_of, values_for}
 use Rattle.quota.proofs.Answers.{given_exactly}
 use Rattle.quota.proofs.Checks.{values_are}
 use Rattle.useful_limit.specs.declared.Fitted.{Fitted}
-use Rattle.useful_limit.specs.declared.Fitted.TheVariants.{Fits, Short, Refused as NoFit}
+use Rattle.useful_limit.specs.declared.Fitted.TheVariants.{Fits, Short}
 use Rattle.useful_limit.specs.Fit.{fitted}
 use Rattle.useful_limit.proofs.Serves.{Begins, range_begins, fit_serves}
 use Rattle.run_memory.specs.Memory.{Memory}
@@ -156,7 +156,7 @@ lent_code_quota_serves {s} {p} b {M} {K} e h = lent_served s p K M (quota_begins
 
 -- ---- the quota that fits: of b at least 1 rows that keep the rule with b are asked for, of b 0 nothing
 
-pub fit_within : (s : List ℕ) (p b M K X : ℕ) → fitted s p b M ≡ Fits K X
+pub fit_within : (s : List ℕ) (p b M K X : ℕ) → fitted s p b M ≡ Ok (Fits K X)
     → (calls : List Call) → WithinBoard (Ruled b) (table_of s) K M (after_calls calls (start_run s p K)) (row_of_calls calls (start_run s p K))
 fit_within s p b M K X e calls =
     let (i, most) = fit_serves s p b M K X e in
@@ -168,7 +168,7 @@ fit_within s p b M K X e calls =
     })
 
 -- `useful_limit::fit_in(table, p, b, M, ..)` answered x, lent working memory that held anything
-pub record FitSays (s : List ℕ) (p b M : ℕ) (x : Fitted) : Type 0 where
+pub record FitSays (s : List ℕ) (p b M : ℕ) (x : Result Fitted Refusal) : Type 0 where
   pub lifetimes : Lfts 7
   pub table : Bor (List ℕ)
   pub rises : MutBor (List ℕ)
@@ -181,20 +181,20 @@ pub record FitSays (s : List ℕ) (p b M : ℕ) (x : Fitted) : Type 0 where
   pub exit : AtExit (ended_of 7 fit_kinds.ps fit_kinds.r) lifetimes
   pub promised : fit_promise.Learnt lifetimes (table, (p, (b, (M, (rises, (falls, (serials, (depths, (peaks, (rows, tt)))))))))) x exit
 
-pub fit_is : {s : List ℕ} {p b M : ℕ} {x : Fitted} → FitSays s p b M x → x ≡ fitted s p b M
+pub fit_is : {s : List ℕ} {p b M : ℕ} {x : Result Fitted Refusal} → FitSays s p b M x → x ≡ fitted s p b M
 fit_is {s} {p} {b} {M} h = h.promised.0 ∙ ap (λ (l : List ℕ). fitted l p b M) h.lent
 
 -- `wivakkol_fit` puts 1 into its row where a quota fits, and after it the quota and the memory that it needs
-pub row_fits : (s : List ℕ) (p b M K X : ℕ) → fit_row (fitted s p b M) ≡ 0 ∷ 1 ∷ K ∷ X ∷ [] → fitted s p b M ≡ Fits K X
+pub row_fits : (s : List ℕ) (p b M K X : ℕ) → fit_row (fitted s p b M) ≡ 0 ∷ 1 ∷ K ∷ X ∷ [] → fitted s p b M ≡ Ok (Fits K X)
 row_fits s p b M K X e = go (fitted s p b M) e
   where
-    go : (q : Fitted) → fit_row q ≡ 0 ∷ 1 ∷ K ∷ X ∷ [] → q ≡ Fits K X
-    go (Fits L Y) d = ap₂ Fits (ap (λ (l : List ℕ). get_or l 2 0) d) (ap (λ (l : List ℕ). get_or l 3 0) d)
-    go (Short L Y) d = absurd (let z : ◌≡◌ {A = ℕ} 0 1 = ap (λ (l : List ℕ). get_or l 1 0) d in omega (arith, z))
-    go (NoFit r) d = absurd (let z : ◌≡◌ {A = ℕ} 0 1 = ap (λ (l : List ℕ). get_or l 1 0) d in omega (arith, z))
+    go : (q : Result Fitted Refusal) → fit_row q ≡ 0 ∷ 1 ∷ K ∷ X ∷ [] → q ≡ Ok (Fits K X)
+    go (Ok (Fits L Y)) d = ap Ok (ap₂ Fits (ap (λ (l : List ℕ). get_or l 2 0) d) (ap (λ (l : List ℕ). get_or l 3 0) d))
+    go (Ok (Short L Y)) d = absurd (let z : ◌≡◌ {A = ℕ} 0 1 = ap (λ (l : List ℕ). get_or l 1 0) d in omega (arith, z))
+    go (Err r) d = absurd (let z : ◌≡◌ {A = ℕ} 0 1 = ap (λ (l : List ℕ). get_or l 1 0) d in omega (arith, z))
 
-pub code_fit_serves : {s : List ℕ} {p : ℕ} (b : ℕ) {M K X : ℕ} → fitted s p b M ≡ Fits K X → {x : Begun} → by_value.BeginSays s p K x → Served (Ruled b) s K M x
+pub code_fit_serves : {s : List ℕ} {p : ℕ} (b : ℕ) {M K X : ℕ} → fitted s p b M ≡ Ok (Fits K X) → {x : Begun} → by_value.BeginSays s p K x → Served (Ruled b) s K M x
 code_fit_serves {s} {p} b {M} {K} {X} e h = served s p K M (fit_serves s p b M K X e).0 (Ruled b) (fit_within s p b M K X e) h
 
-pub lent_code_fit_serves : {s : List ℕ} {p : ℕ} (b : ℕ) {M K X : ℕ} → fitted s p b M ≡ Fits K X → {out filled : List ℕ} {a : Left} → from_c.BeginSays s p K out a filled → LentServed (Ruled b) s K M a filled
+pub lent_code_fit_serves : {s : List ℕ} {p : ℕ} (b : ℕ) {M K X : ℕ} → fitted s p b M ≡ Ok (Fits K X) → {out filled : List ℕ} {a : Left} → from_c.BeginSays s p K out a filled → LentServed (Ruled b) s K M a filled
 lent_code_fit_serves {s} {p} b {M} {K} {X} e h = lent_served s p K M (fit_serves s p b M K X e).0 (Ruled b) (fit_within s p b M K X e) h

@@ -17,14 +17,13 @@ use Rattle.table.specs.Rules.{Rules}
 use Rattle.table.specs.declared.Refusal.{Refusal}
 use Rattle.table.proofs.Tests.{no_way}
 use Rattle.table.proofs.Sizes.{inside}
-use Rattle.filling.specs.declared.Filling.{Filling}
 use Rattle.order.specs.Words.{is_nothing}
 use Rattle.filling.specs.Filled.{big, filled_out, fill_pass}
 use Rattle.filling.specs.Filling.{filled_into}
 use Rattle.schedule.specs.Record.{max_workers}
 use Rattle.schedule.proofs.Stores.{Fits}
 use Rattle.schedule.proofs.Beginnings.{silent_runs}
-use Rattle.soundness.specs.Tested.{parents_if, next_if, begin_found, begin_filling, begun_into}
+use Rattle.soundness.specs.Tested.{Filling, parents_if, next_if, begin_found, begin_filling, begun_into}
 use Rattle.soundness.proofs.Fillings.{runs, given_runs, fills_given, fills_none, front_is_lem, fills_whole, sized}
 use Rattle.useful_limit.specs.Limits.{quota_check, room_for}
 use Rattle.useful_limit.specs.Code.Parts.{wide_fault}

@@ -15,14 +15,14 @@ use line::{answer_line, answer_to};
 use table::Refusal;
 
 // What is said of the table that runs: the limit for the choices asked, and for choices 0.
-#[derive(Drop)]
+#[derive(Clone, Copy, PartialEq, Eq, Debug)]
 pub struct Bounds {
     pub memory: u64,
     pub near: u64,
 }
 
 // The limit for choices below c, of the table that runs. The table is filled out into the buffer, where it has to be; 36,868 bytes are always enough. The working memory may hold anything and
-// is left cleared.
+// is left cleared. Six arrays by themselves and no struct: C lends each.
 pub fn choice_limit_in(
     table: &[u8],
     p: u8,

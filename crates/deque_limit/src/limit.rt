@@ -8,9 +8,8 @@ ghost use Rattle.deque_limit.specs.Asked.{Asked};
 use crate::Bounds;
 use crate::numbers::numbers;
 use filling::fill_in;
-use quota::outside;
 use soundness::begin_fault;
-use table::Refusal;
+use table::{Refusal, outside};
 use useful_limit::wide_fault;
 
 // Of the bytes of an accepted table.
@@ -28,13 +27,8 @@ fn numbers_for(
     requires { Rules table.now × Asked quota c }
     ensures { result ≡ Ok (bounds_of (table_of table.now) quota c) }
 {
-    let loaded = facts::load_in(table, rises, falls, serials, depths);
-    match loaded {
-        Err(r) => Err(r),
-        Ok(facts) => {
-            Ok(numbers(table, facts, quota, c, rises, falls, peaks, rows))
-        }
-    }
+    let facts = facts::load_in(table, rises, falls, serials, depths)?;
+    Ok(numbers(table, facts, quota, c, rises, falls, peaks, rows))
 }
 
 // The working memory is left as it was used.
@@ -54,25 +48,18 @@ pub(crate) fn choice_answer(
     ensures value { result ≡ choice_limits_in table.now p quota c (length filled.old) }
     ensures filled_after { filled.new ≡ choice_limits_into table.now p quota c filled.old }
 {
-    if outside(1, p as u32, c) {
+    if outside(1, p as usize, c as usize) {
         return Err(wide_fault(table, p, 49, rises, falls));
     }
-    let filling = begin_fault(table, p, quota, rises, falls);
-    let found = filling.found;
-    if let Err(r) = found {
-        return Err(r);
-    }
-    let k = filling.bytes;
+    let k = begin_fault(table, p, quota, rises, falls)?;
     if k == 0 {
         return numbers_for(table, quota, c, rises, falls, serials, depths, peaks, rows);
     }
     if filled.len() < k {
-        return Err(Refusal {
-            number: 61,
-            place: 0,
-        });
+        return Err(Refusal::new(61, 0));
     }
-    fill_in(table, quota, filled, rises, falls);
+    // No check applies.
+    let _ = fill_in(table, quota, filled, rises, falls);
     numbers_for(
         &filled[..k],
         quota,

@@ -4,10 +4,10 @@ ghost use Rattle.deque_limit.specs.ChoiceLimit.{choice_limits};
 ghost use Rattle.deque_limit.specs.Line.{choices_to, bounds_line, choices_line};
 
 use crate::{Bounds, choice_limit_in};
-use table::read::byte;
 use table::Refusal;
+use table::front::{four_bytes, three_bytes};
+use table::read::byte;
 use text::{put_labelled, put_word};
-use useful_limit::line::{number_in, quota_in};
 
 // In working memory of its own.
 fn answer_whole(table: &[u8], p: u8, quota: u32, c: u32) -> Result<Bounds, Refusal>
@@ -40,16 +40,13 @@ pub(crate) fn answer_to(input: &[u8]) -> Result<Bounds, Refusal>
     ensures { result ≡ choices_to input.now }
 {
     if input.len() < 8 {
-        return Err(Refusal {
-            number: 33,
-            place: 0,
-        });
+        return Err(Refusal::new(33, 0));
     }
     answer_whole(
         &input[8..],
         byte(input, 0),
-        quota_in(input),
-        number_in(input),
+        three_bytes(input, 1),
+        four_bytes(input, 4),
     )
 }
 

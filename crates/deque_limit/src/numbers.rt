@@ -1,36 +1,14 @@
 // The two numbers of an accepted table.
 ghost use Rattle.std.specs.Prelude.{◌≡◌, ◌+◌, ◌-◌, ◌*◌, ◌≤◌};
 ghost use Rattle.table.specs.Format.{table_of};
-ghost use Rattle.table.specs.Rules.{Rules};
-ghost use Rattle.peaks.specs.Peak.{peak_at};
 ghost use Rattle.quota.specs.Code.Steps.{Accepted};
 ghost use Rattle.deque_limit.specs.ChoiceLimit.{near_limit, bounds_of};
 ghost use Rattle.deque_limit.specs.Asked.{Asked, Small};
 
 use crate::Bounds;
-use peak_walk::peak_in;
 use quota::allocs::least_quota;
 use table::Facts;
-use useful_limit::lower;
-
-// The root's peak at a load.
-fn peak_at(
-    table: &[u8],
-    load: u8,
-    rises: &mut [u64; 1024],
-    falls: &mut [u64; 1024],
-    peaks: &mut [u64; 17408],
-    rows: &mut [u64; 17408],
-) -> u64
-    requires { Rules table.now × (load ≤ 16) }
-    ensures { result ≡ peak_at (table_of table.now) 0 load }
-{
-    let answer = peak_in(table, load, false, rises, falls, peaks, rows);
-    match answer {
-        Ok(peak) => peak,
-        Err(_) => 0,
-    }
-}
+use useful_limit::peak_at;
 
 // S1 + K · (N − 1).
 fn ruled(serial: u64, quota: u32, nested: u16) -> u64
@@ -53,11 +31,11 @@ fn near_at(
     requires { Accepted table.now facts × (1 ≤ quota) × (quota ≤ 16777215) }
     ensures { result ≡ near_limit (table_of table.now) quota }
 {
-    let peak = peak_at(table, 1, rises, falls, peaks, rows);
+    let peak = peak_at(table, 1, false, rises, falls, peaks, rows);
     if (quota as usize) < least_quota(table) {
         return peak;
     }
-    lower(peak, ruled(facts.peak, quota, facts.nested))
+    peak.min(ruled(facts.peak, quota, facts.nested))
 }
 
 pub(crate) fn numbers(
@@ -77,6 +55,6 @@ pub(crate) fn numbers(
     if c == 1 {
         return Bounds { memory: near, near };
     }
-    let memory = peak_at(table, c as u8, rises, falls, peaks, rows);
+    let memory = peak_at(table, c as u8, false, rises, falls, peaks, rows);
     Bounds { memory, near }
 }

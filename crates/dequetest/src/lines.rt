@@ -25,9 +25,7 @@ fn mark_once(row: &[u16; 1024], len: usize, marks: &mut [bool; 1024]) -> bool
     ensures value { result ≡ once_in (take len row.now) }
     ensures false_after { result ≡ true → (t : ℕ) → get_or marks.new t false ≡ member t (take len row.now) }
 {
-    let mut i = len;
-    while 0 < i {
-        i -= 1;
+    for i in (0..len).rev() {
         let t = row[i] as usize;
         if marks[t] {
             return false;
@@ -125,10 +123,8 @@ fn gather_bottoms(
     ensures { take result bottoms.new ≡ bottoms_along (bottom_at under.now first) (take len row.now) }
 {
     let mut count = 0;
-    let mut i = 0;
-    while i < len {
+    for i in 0..len {
         let t = row[i];
-        i += 1;
         if !is_bottom(under, first, t) {
             continue;
         }

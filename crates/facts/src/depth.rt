@@ -6,7 +6,7 @@ ghost use Rattle.table.specs.Level.{D};
 ghost use Rattle.facts.specs.Code.Steps.{Kept};
 ghost use Rattle.facts.specs.Code.DepthWalk.{reached, body_depth, cut16, after_last, Stepped};
 
-use table::kinds::{FORK, JOIN};
+use table::kinds::Kind;
 use table::read::{action_in, body_of, count};
 
 fn wide(x: u16) -> usize
@@ -34,24 +34,24 @@ fn put_depth(depths: &mut [u16; 1024], x: usize, v: usize)
 }
 
 // The depth of an action after one of depth `last`; a join comes after its child's end too.
-fn after_last(k: u8, child: usize, last: usize) -> usize
+fn after_last(kind: Kind, child: usize, last: usize) -> usize
     requires { (child < 65536) × (last < 2 ^ 32) }
-    ensures { result ≡ after_last (kind_of k) child last }
+    ensures { result ≡ after_last kind child last }
 {
-    if k != JOIN {
-        return last + 1;
+    match kind {
+        Kind::Join => last.max(child) + 1,
+        _ => last + 1,
     }
-    if last < child { child + 1 } else { last + 1 }
 }
 
 // One action: from a fork on its child counts from the thread's first action.
-fn depth_step(k: u8, x: usize, last: usize, depths: &mut [u16; 1024]) -> usize
+fn depth_step(kind: Kind, x: usize, last: usize, depths: &mut [u16; 1024]) -> usize
     requires { (length depths.old ≡ 1024) × (last < 2 ^ 32) }
-    ensures { Stepped (kind_of k) x (reached depths.old last) (reached depths.new result) }
+    ensures { Stepped kind x (reached depths.old last) (reached depths.new result) }
 {
     let child = depth_at(depths, x);
-    let after = after_last(k, child, last);
-    if k == FORK {
+    let after = after_last(kind, child, last);
+    if let Kind::Fork = kind {
         put_depth(depths, x, child + after);
     }
     after
@@ -66,7 +66,7 @@ fn depth_walk(body: &[u8], count: usize, depths: &mut [u16; 1024]) -> usize
     let mut last = 0;
     for i in 0..count {
         let action = action_in(body, i);
-        last = depth_step(action.code, action.argument, last, depths);
+        last = depth_step(action.kind(), action.argument, last, depths);
     }
     last
 }
@@ -77,9 +77,7 @@ pub(crate) fn depth_in(table: &[u8], n: usize, m: usize, depths: &mut [u16; 1024
     ensures { result ≡ D (table_of table.now) }
 {
     *depths = [0; 1024];
-    let mut t = n;
-    while 0 < t {
-        t -= 1;
+    for t in (0..n).rev() {
         let body = body_of(table, n, t);
         let last = depth_walk(body, count(table, t), depths);
         put_depth(depths, t, last);

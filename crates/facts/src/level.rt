@@ -1,11 +1,12 @@
 // The depth D: a thread's end level, given its start level, and the walk over its actions call each other.
 ghost use Rattle.std.specs.Prelude.{◌≡◌, ◌<◌, ◌≤◌, get_or};
-ghost use Rattle.table.specs.Format.{kind_of, table_of, body_of};
+ghost use Rattle.table.specs.Format.{table_of, body_of};
+ghost use Rattle.table.specs.declared.kinds.Kind.TheVariants.{Join as join};
 ghost use Rattle.table.specs.Level.{D};
 ghost use Rattle.facts.specs.Code.Steps.{Kept, Starts, EndLevels, Walked, next_level};
 
-use table::kinds::{FORK, JOIN};
-use table::read::{argument_in, body_of, code_in, count};
+use table::kinds::Kind;
+use table::read::{action_in, body_of, count};
 
 // A thread's end level, given the level of its first action. `ends` has the end levels found so far, 0 where none is.
 #[cycle(end_level_walk)]
@@ -44,13 +45,12 @@ fn walk(
     ensures { Walked (table_of table.now) t ends.old result ends.new }
 {
     let mut last = start - 1;
-    let mut i = 0;
-    while i < count {
-        let k = code_in(body, i);
-        let x = argument_in(body, i);
-        last = next_level(k, x, last, ends);
-        i += 1;
-        if k == FORK {
+    for i in 0..count {
+        let action = action_in(body, i);
+        let kind = action.kind();
+        let x = action.argument;
+        last = next_level(kind, x, last, ends);
+        if let Kind::Fork = kind {
             let end = end_level(table, n, m, x, last + 1, ends);
             ends[x] = end;
         }
@@ -59,15 +59,14 @@ fn walk(
 }
 
 // The level of an action after one of level `last`.
-fn next_level(k: u8, x: usize, last: usize, ends: &[usize; 1024]) -> usize
-    requires { (last < 8192) × (k ≡ 5 → (x < 1024) × (get_or ends.now x 0 ≤ 8192)) }
-    ensures { result ≡ next_level (kind_of k) x last ends.now }
+fn next_level(kind: Kind, x: usize, last: usize, ends: &[usize; 1024]) -> usize
+    requires { (last < 8192) × (kind ≡ join → (x < 1024) × (get_or ends.now x 0 ≤ 8192)) }
+    ensures { result ≡ next_level kind x last ends.now }
 {
-    if k != JOIN {
-        return last + 1;
+    match kind {
+        Kind::Join => last.max(ends[x]) + 1,
+        _ => last + 1,
     }
-    let end = ends[x];
-    if last < end { end + 1 } else { last + 1 }
 }
 
 pub(crate) fn depth(table: &[u8], n: usize, m: usize) -> usize

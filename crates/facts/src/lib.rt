@@ -19,7 +19,7 @@ use table::read::{actions, threads};
 use table::{Facts, Refusal};
 
 // An accepted table's facts, and what its serial run holds at its end.
-#[derive(Drop)]
+#[derive(Clone, Copy, PartialEq, Eq, Debug)]
 pub struct Weighed {
     pub facts: Facts,
     pub left: u64,
@@ -30,10 +30,7 @@ pub fn load(table: &[u8]) -> Result<Facts, Refusal>
     ensures value { result ≡ loaded table.now }
     ensures result_value { values_of result ≡ table_values table.now }
 {
-    let found = check(table);
-    if let Err(r) = found {
-        return Err(r);
-    }
+    check(table)?;
     let n = threads(table);
     let m = actions(table);
     let mut rises = [0u64; 1024];
@@ -64,14 +61,8 @@ pub fn load_in(
     ensures result_value { values_of result ≡ table_values table.now }
     ensures rises_after { (rises.new ≡ replicate 1024 0) × (falls.new ≡ replicate 1024 0) × (peaks.new ≡ replicate 1024 0) × (depths.new ≡ replicate 1024 0) }
 {
-    let answer = weigh_in(table, rises, falls, peaks, depths);
-    match answer {
-        Ok(w) => {
-            let facts = w.facts;
-            Ok(facts)
-        }
-        Err(r) => Err(r),
-    }
+    let weighed = weigh_in(table, rises, falls, peaks, depths)?;
+    Ok(weighed.facts)
 }
 
 // The facts with what the serial run leaves, likewise.
@@ -103,10 +94,7 @@ fn weigh(
 ) -> Result<Weighed, Refusal>
     ensures { result ≡ weighing table.now }
 {
-    let found = check_in(table, rises, falls);
-    if let Err(r) = found {
-        return Err(r);
-    }
+    check_in(table, rises, falls)?;
     let n = threads(table);
     let m = actions(table);
     let amounts = serial_amounts(table, n, m, rises, falls, peaks);

@@ -16,7 +16,7 @@ use parallel::best_of;
 use table::Refusal;
 use table::read::threads;
 
-// Over all places, or over resting places alone. The working memory may hold anything and is left cleared.
+// Over all places, or over resting places alone. The working memory may hold anything and is left cleared. Rows lie in flat arrays: C lends them, and there is no heap.
 pub fn peak_in(
     table: &[u8],
     load: u8,

@@ -74,7 +74,7 @@ fn quota_for(table: &[u8], facts: Facts, p: u8, b: u32, memory: u64) -> Result<u
 }
 
 // What each unit of quota adds to the bound. With b below 2^16, p at most 16 and D at most 8,192 it is below 2^33, and times any K below 2^57; here no product with K is made.
-fn cost(p: u8, b: u32, depth: u16) -> u64
+pub fn cost(p: u8, b: u32, depth: u16) -> u64
     requires { Ready p b depth }
     ensures { result ≡ b * (p - 1) * (depth - 1) }
 {

@@ -1,5 +1,6 @@
 -- A list that is 0 from a place on is its front part filled up with 0.
-use mathlib.Core.Path.{◌≡◌, refl, sym, ap, ◌∙◌}
+use Rattle.std.specs.Prelude.{◌↔◌, IsTrue, EachIndex, slice_index}
+use mathlib.Core.Path.{◌≡◌, sym, ap, ◌∙◌}
 use mathlib.Core.Logic.{inl, inr, ⊎_elim}
 use Prim.Native.Nat.{ℕ, ◌+◌, ◌-◌, ◌≤◌, ◌<◌}
 use mathlib.Core.List.{List}
@@ -71,10 +72,12 @@ none_filled size l =
     let e : size - 0 ≡ size = omega arith in
     rw e
 
--- a loop that looks at each place
-module _ (l : List ℕ) (i : ℕ) (p : PassedFrom 0 (is_zero l) i) where
-  pub zeros_fail : i < length l → (get_or l i 0 ≡ 0 → ⊥) → false ≡ same_list l (replicate (length l) 0)
-  zeros_fail h e = rest_fails l 0 (length l) refl i p h e ∙ ap (same_list l) (none_filled (length l) l)
-
-  pub zeros_pass : length l ≤ i → true ≡ same_list l (replicate (length l) 0)
-  zeros_pass h = rest_pass l 0 (length l) refl i p h ∙ ap (same_list l) (none_filled (length l) l)
+-- a test of each element
+pub zeros_same : (l : List ℕ) (b : Bool) → length l ≡ 1024 → IsTrue b ↔ EachIndex l (λ k. slice_index l k ≡ 0) → b ≡ same_list l (replicate 1024 0)
+zeros_same l b z e =
+    same_truth b (same_list l (replicate 1024 0))
+    (λ t. (same_list_exactly l (replicate 1024 0)).1 (ext_get_or 0 l (replicate 1024 0) (z ∙ sym (length-replicate {A = ℕ} 1024 0))
+    (λ i h. e.0 t i h ∙ sym (get_or-replicate 1024 i 0 0 (omega (arith, z, h))))))
+    (λ t.
+    let d : l ≡ replicate 1024 0 = (same_list_exactly l (replicate 1024 0)).0 t in
+    e.1 (λ i h. ap (λ (k : List ℕ). get_or k i 0) d ∙ get_or-replicate 1024 i 0 0 (omega (arith, z, h))))

@@ -15,16 +15,17 @@ use Rattle.table.specs.Pass.{refusal, or_else, try_at, try_from, try_pass, first
 use Rattle.table.specs.Checks.{outside, passes}
 use Rattle.table.specs.Rules.{Rules}
 use Rattle.table.specs.declared.Refusal.{Refusal}
+use Rattle.table.proofs.Tests.{no_way}
 use Rattle.table.proofs.Passes.{first_found_append}
 use Rattle.table.proofs.Sizes.{Sizes, sizes}
-use Rattle.filling.specs.declared.Filling.{Filling}
+use Rattle.order.specs.Words.{is_nothing}
 use Rattle.filling.specs.Filled.{big, filled_out, fill_pass}
-use Rattle.filling.specs.Filling.{quota_pass, fill_found, filling_of, filled_into}
+use Rattle.filling.specs.Filling.{answer_as, quota_pass, fill_found, filling_of, filled_into}
 use Rattle.filling.proofs.Runs.{Runs}
 use Rattle.schedule.specs.Begin.{begin_passes}
 use Rattle.schedule.proofs.Stores.{Fits}
 use Rattle.schedule.proofs.Beginnings.{silent_runs}
-use Rattle.soundness.specs.Tested.{parents_if, next_if, begin_found, begin_filling, begins, begun_into}
+use Rattle.soundness.specs.Tested.{Filling, parents_if, next_if, begin_found, begin_filling, begin_answer, begins, begun_into}
 
 -- ---- what is found
 
@@ -47,23 +48,43 @@ module _ (s : List ℕ) (p K : ℕ) where
       go true = refl
       go false = refl
 
-  pub measured : outside 1 16 p ≡ false → filling_of s K ≡ begin_filling s p K
+  pub measured : outside 1 16 p ≡ false → filling_of s K ≡ begin_answer s p K
   unfolding filling_of begin_filling
-  measured h = rw (found_filling h)
+  measured h = rw (found_filling h) (same (fill_found s K))
+    where
+      same : (f : Result ⊤ Refusal) → answer_as f (pick (is_nothing f && any_below (big (table_of s) K) (table_of s).actions) (length (filled_out s K)) 0)
+          ≡ answer_as f (pick (is_nothing f && any_below (big (table_of s) K) (table_of s).actions) (length (filled_out s K)) 0)
+      same f = refl
 
-  refused : (f : Result ⊤ Refusal) (x : Refusal) → f ≡ Err x → begin_found s p K ≡ Err x → ◌≡◌ {A = Filling} (record { found = f; bytes = 0 }) (begin_filling s p K)
+  refused : (x : Refusal) → begin_found s p K ≡ Err x → Err x ≡ begin_answer s p K
   unfolding begin_filling
-  refused f x e h = rw (e, h)
+  refused x h = rw h
 
   -- by a check of the table
-  pub refused_table : (f : Result ⊤ Refusal) (x : Refusal) → f ≡ first_found (passes s) → f ≡ Err x → ◌≡◌ {A = Filling} (record { found = f; bytes = 0 }) (begin_filling s p K)
-  refused_table f x e d =
-      let h : first_found (passes s) ≡ Err x = sym e ∙ d in
-      refused f x d (found_is ∙ rw h)
+  pub refused_table : (x : Refusal) → first_found (passes s) ≡ Err x → Err x ≡ begin_answer s p K
+  refused_table x h = refused x (found_is ∙ rw h)
 
   -- by 20
-  pub refused_workers : (f : Result ⊤ Refusal) → first_found (passes s) ≡ Ok tt → outside 1 16 p ≡ true → f ≡ Err (refusal 20 0) → ◌≡◌ {A = Filling} (record { found = f; bytes = 0 }) (begin_filling s p K)
-  refused_workers f n o e = refused f (refusal 20 0) e (found_is ∙ rw (n, o))
+  pub refused_workers : first_found (passes s) ≡ Ok tt → outside 1 16 p ≡ true → Err (refusal 20 0) ≡ begin_answer s p K
+  refused_workers n o = refused (refusal 20 0) (found_is ∙ rw (n, o))
+
+  -- what the answer says of the checks and of the bytes
+  pub answer_refused : {x : Refusal} → Err x ≡ begin_answer s p K → (begin_filling s p K).found ≡ Err x
+  answer_refused {x} e = go (begin_filling s p K).found e
+    where
+      go : (f : Result ⊤ Refusal) → Err x ≡ answer_as f (begin_filling s p K).bytes → f ≡ Err x
+      go (Ok _) d = no_way (cc)
+      go (Err y) d = let q : x ≡ y = cc in rw q
+
+  abbrev pub accepted_with : ℕ → Filling
+  accepted_with k = record { found = Ok tt; bytes = k }
+
+  pub answer_accepted : {k : ℕ} → Ok k ≡ begin_answer s p K → accepted_with k ≡ begin_filling s p K
+  answer_accepted {k} e = go (begin_filling s p K).found refl e
+    where
+      go : (f : Result ⊤ Refusal) → (begin_filling s p K).found ≡ f → Ok k ≡ answer_as f (begin_filling s p K).bytes → accepted_with k ≡ begin_filling s p K
+      go (Ok _) g d = let q : k ≡ (begin_filling s p K).bytes = cc in rw (q, g)
+      go (Err y) g d = no_way (cc)
 
 -- ---- what is filled in
 

@@ -11,9 +11,8 @@ use Rattle.schedule.specs.Machine.{parent_of, nobody}
 use Rattle.schedule.specs.Links.{Links, list_of, laid}
 use Rattle.schedule.specs.Record.{max_workers, table_in}
 use Rattle.order.specs.Words.{filled, all_below, is_nothing, same_list}
-use Rattle.filling.specs.declared.Filling.{Filling}
 use Rattle.filling.specs.Filled.{big, filled_out}
-use Rattle.filling.specs.Filling.{filled_into}
+use Rattle.filling.specs.Filling.{answer_as, filled_into}
 use Rattle.schedule.specs.Begin.{begin_passes}
 use Rattle.order.specs.Firsts.{firsts}
 use Rattle.schedule.specs.Sound.{common_sound, listed, same_links, sound}
@@ -35,6 +34,11 @@ next_if q T = pick q (filled max_threads (firsts T.first 0 T.threads)) (replicat
 abbrev pub begin_found : List ℕ → ℕ → ℕ → Result ⊤ Refusal
 begin_found s p K = first_found (passes s ++ begin_passes (table_of s) p K)
 
+-- what the checks of a beginning find, and a number of bytes
+pub record Filling : Type 0 where
+  pub found : Result ⊤ Refusal
+  pub bytes : ℕ
+
 -- and how many bytes the filled-out table has, 0 where a check applies or nothing is above K: then the table as given runs
 unfoldable pub begin_filling : List ℕ → ℕ → ℕ → Filling
 begin_filling s p K =
@@ -42,6 +46,10 @@ begin_filling s p K =
       found = begin_found s p K;
       bytes = pick (is_nothing (begin_found s p K) && any_below (big (table_of s) K) (table_of s).actions) (length (filled_out s K)) 0;
     }
+
+-- what a beginning answers: the bytes, or what is found
+abbrev pub begin_answer : List ℕ → ℕ → ℕ → Result ℕ Refusal
+begin_answer s p K = answer_as (begin_filling s p K).found (begin_filling s p K).bytes
 
 -- no check applies, and what is to be filled out has room
 abbrev pub begins : List ℕ → ℕ → ℕ → ℕ → Bool

@@ -7,10 +7,10 @@ ghost use Rattle.schedule.specs.Begin.{setting_passes};
 ghost use Rattle.order.specs.Firsts.{firsts};
 ghost use Rattle.order.specs.Words.{filled};
 ghost use Rattle.soundness.specs.Code.Checks.{Accepted};
-ghost use Rattle.soundness.specs.Tested.{parents_in, begin_filling};
+ghost use Rattle.soundness.specs.Tested.{parents_in, begin_answer};
 
 use crate::bodies::fill_forks;
-use filling::{Filling, measure};
+use filling::measure;
 use table::{Refusal, outside, read};
 
 // 20: "p outside 1 to 16"; 21: "K outside its range".
@@ -34,19 +34,13 @@ pub fn begin_fault(
     quota: u32,
     rises: &mut [u64; 1024],
     falls: &mut [u64; 1024],
-) -> Filling
-    ensures value { result ≡ begin_filling table.now p quota }
+) -> Result<usize, Refusal>
+    ensures value { result ≡ begin_answer table.now p quota }
     ensures rises_after { (rises.new ≡ replicate 1024 0) × (falls.new ≡ replicate 1024 0) }
 {
     if outside(1, 16, p as usize) {
-        let found = checks::check_in(table, rises, falls);
-        if let Err(_) = found {
-            return Filling { found, bytes: 0 };
-        }
-        return Filling {
-            found: Err(Refusal::new(20, 0)),
-            bytes: 0,
-        };
+        checks::check_in(table, rises, falls)?;
+        return Err(Refusal::new(20, 0));
     }
     measure(table, quota, rises, falls)
 }

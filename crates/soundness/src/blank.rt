@@ -7,10 +7,10 @@ ghost use Rattle.soundness.specs.Code.Checks.{zero_arrays};
 ghost use Rattle.soundness.specs.Tested.{blank_on};
 
 use crate::holders::workers_right;
-use crate::unused::{bytes_rest, zero_amounts, zero_numbers};
+use crate::unused::bytes_rest;
 use schedule::{Run, Worker};
 
-// The threads' numbers are all 0.
+// The threads' numbers are all 0, and so are the links: "in the blank record all are 0" (N10).
 fn zero_arrays(
     next: &[u16; 1024],
     status: &[u8; 1024],
@@ -20,19 +20,19 @@ fn zero_arrays(
 ) -> bool
     ensures { result ≡ zero_arrays next.now status.now amounts.now left.now right.now }
 {
-    if !zero_numbers(next) {
+    if !next.iter().all(|x| *x == 0) {
         return false;
     }
-    if !bytes_rest(status, 0) {
+    if !status.iter().all(|x| *x == 0) {
         return false;
     }
-    if !zero_amounts(amounts) {
+    if !amounts.iter().all(|x| *x == 0) {
         return false;
     }
-    if !zero_numbers(left) {
+    if !left.iter().all(|x| *x == 0) {
         return false;
     }
-    zero_numbers(right)
+    right.iter().all(|x| *x == 0)
 }
 
 // No worker holds anything.

@@ -4,13 +4,14 @@
 ghost use Rattle.std.specs.Prelude.{◌≡◌, length, replicate};
 ghost use Rattle.table.specs.Format.{table_of};
 ghost use Rattle.filling.specs.Filled.{filled_out};
-ghost use Rattle.soundness.specs.Tested.{begin_filling, begins, begun_into, next_if, parents_if, tested};
+ghost use Rattle.soundness.specs.Tested.{begin_answer, begins, begun_into, next_if, parents_if, tested};
 
 use crate::beginning::fill_start;
 use crate::blank::is_blank;
 use crate::sound::sound;
-use filling::{Filling, fill_in};
+use filling::fill_in;
 use schedule::Run;
+use table::Refusal;
 
 mod amounts;
 mod beginning;
@@ -39,8 +40,8 @@ pub fn accept(
     filled: &mut [u8],
     next: &mut [u16; 1024],
     parents: &mut [u16; 1024],
-) -> Filling
-    ensures value { result ≡ begin_filling table.now p quota }
+) -> Result<usize, Refusal>
+    ensures value { result ≡ begin_answer table.now p quota }
     ensures filled_after { filled.new ≡ begun_into table.now p quota filled.old }
     ensures next_after { next.new ≡ next_if (begins table.now p quota (length filled.old)) (table_of (filled_out table.now quota)) }
     ensures parents_after { parents.new ≡ parents_if (begins table.now p quota (length filled.old)) (table_of (filled_out table.now quota)) }
@@ -62,8 +63,8 @@ pub fn accept_in(
     parents: &mut [u16; 1024],
     rises: &mut [u64; 1024],
     falls: &mut [u64; 1024],
-) -> Filling
-    ensures value { result ≡ begin_filling table.now p quota }
+) -> Result<usize, Refusal>
+    ensures value { result ≡ begin_answer table.now p quota }
     ensures filled_after { filled.new ≡ begun_into table.now p quota filled.old }
     ensures next_after { next.new ≡ next_if (begins table.now p quota (length filled.old)) (table_of (filled_out table.now quota)) }
     ensures parents_after { parents.new ≡ parents_if (begins table.now p quota (length filled.old)) (table_of (filled_out table.now quota)) }
@@ -71,22 +72,18 @@ pub fn accept_in(
 {
     *next = [0; 1024];
     *parents = [0; 1024];
-    let filling = begin_fault(table, p, quota, rises, falls);
-    let found = filling.found;
-    if let Err(_) = found {
-        return filling;
-    }
-    let k = filling.bytes;
+    let k = begin_fault(table, p, quota, rises, falls)?;
     if k == 0 {
         fill_start(table, next, parents);
-        return filling;
+        return Ok(0);
     }
     if filled.len() < k {
-        return filling;
+        return Ok(k);
     }
-    fill_in(table, quota, filled, rises, falls);
+    // No check applies.
+    let _ = fill_in(table, quota, filled, rises, falls);
     fill_start(&filled[..k], next, parents);
-    filling
+    Ok(k)
 }
 
 // Where 32 does not apply, the record being sound or blank, each thread's parent, which the turns after it look up.

@@ -23,7 +23,6 @@ use Rattle.run_memory.specs.Blocks.{Bytes, Words, Numbers, Sums, gathered}
 use Rattle.run_memory.specs.Places.{totalled}
 use Rattle.run_memory.specs.Code.Acts.{went_to}
 use Rattle.run_memory.proofs.Takes.{and_none}
-use Rattle.stealing.specs.declared.DequeTold.{DequeTold}
 use Rattle.deques.specs.Lines.{linked_in}
 use Rattle.array_machine.specs.Arrays.{second_of}
 use Rattle.stealing.specs.Stealing.{leaves_on, wakes_on, forks_on, deque_by, deque_in, deque_on, deque_turn_on}
@@ -202,9 +201,6 @@ module _ (s : List ℕ) (w c : ℕ) (M : Memory) (g : Going M w) where
         go (suc (suc (suc (suc (suc (suc n)))))) i j k = refl
 
 -- ---- as the code says it
-
-pub spoke : {r : DequeTold} {n : ℕ} {y : Reply} {X : Memory} {v : Told} → r ≡ record { number = n; reply = y } → told n y X ≡ v → told r.number r.reply X ≡ v
-spoke {X = X} e d = ap (λ (z : DequeTold). told z.number z.reply X) e ∙ d
 
 -- one turn more was counted
 pub counted_as : (B : Bytes) (W : Words) (N : Numbers) (S : Sums) {y : Reply} {Z : Sums} {v : Told} → Z ≡ totalled 2 (S.turns + 1) S → told 0 y (counted (S.turns + 1) (gathered B W N S)) ≡ v → told 0 y (gathered B W N Z) ≡ v

@@ -40,6 +40,10 @@ module _ {s : List ℕ} {who : ℕ → Pair} {limit : ℕ} {M₀ M : Memory} {i 
       let z : limit - i ≡ 0 = omega (arith, h) in
       ap (λ (b : Bool). stopped 0 b i M) e ∙ (rw z at v.remains)
 
+  -- as the loop's end says it
+  pub spent_at : {q : Bool} {n : ℕ} → q ≡ over_in M → n ≡ limit → limit ≤ i → stopped 0 q n M ≡ whole
+  spent_at {q} e d h = let z : limit ≡ i = omega (arith, h, v.within) in ap (λ (j : ℕ). stopped 0 q j M) (d ∙ z) ∙ spent e h
+
   module _ (h : i < limit) where
     here : deque_drive_in s who (suc (limit - (i + 1))) i M ≡ whole
     here = let n : limit - i ≡ suc (limit - (i + 1)) = omega (arith, h) in ap (λ (k : ℕ). deque_drive_in s who k i M) (sym n) ∙ v.remains

@@ -1,7 +1,7 @@
 -- A turn of DFDeques (N13) on arrays and links, whatever they hold. The links of the list (left, right, leftmost) link the lines: deque by deque from the left, the owner's thread, then
 -- its threads top to bottom. Those of the second list (under, over, first) link the bottoms: the last thread of each line. A read outside an array gives 0. Where a thread's number is none
 -- of the arrays' or a number that the turn would write does not fit into its place, nothing moves. On the arrays of a sound run all fit, and the turn is `deque_turn` (proofs/Refines).
-use Rattle.std.specs.Prelude.{ℕ, zero, suc, List, Bool, true, not, ◌&&◌, ◌||◌, get_or, set, ltb, eqb}
+use Rattle.std.specs.Prelude.{ℕ, zero, suc, List, true, not, ◌&&◌, ◌||◌, get_or, set, ltb, eqb}
 use Rattle.table.specs.Sum.{pick}
 use Rattle.table.specs.Format.{Table, kind}
 use Rattle.table.specs.declared.kinds.Kind.{Kind}

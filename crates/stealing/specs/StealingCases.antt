@@ -6,7 +6,7 @@ use Rattle.table.specs.Cases.{E}
 use Rattle.schedule.specs.declared.Worker.{Worker}
 use Rattle.schedule.specs.declared.Reply.{Reply}
 use Rattle.schedule.specs.declared.Reply.TheVariants.{Idle, Done, Quota, Wait}
-use Rattle.schedule.specs.Machine.{drawn, nobody}
+use Rattle.schedule.specs.Machine.{nobody}
 use Rattle.schedule.specs.Links.{link_left, unlink}
 use Rattle.array_machine.specs.declared.Totals.{Totals}
 use Rattle.array_machine.specs.Arrays.{Arrays, arrays}

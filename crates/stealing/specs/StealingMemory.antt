@@ -1,7 +1,8 @@
 -- A turn and a run over pairs of DFDeques on lent memory, whatever it holds: the memory of an AsyncDF run, its list the lines and its second list the bottoms.
-use Rattle.std.specs.Prelude.{◌≡◌, ℕ, zero, suc, ◌-◌, ◌^◌, ◌/◌, ◌<◌, List, true, false, not, ◌&&◌, length, get_or, ltb, eqb}
+use Rattle.std.specs.Prelude.{◌≡◌, ℕ, zero, suc, ◌-◌, ◌^◌, ◌/◌, ◌<◌, List, true, false, not, ◌&&◌, length, get_or, ltb, eqb, Err, Ok, Result}
 use Rattle.table.specs.Sum.{pick}
 use Rattle.table.specs.Format.{table_of}
+use Rattle.schedule.specs.declared.Reply.{Reply}
 use Rattle.schedule.specs.declared.Reply.TheVariants.{Idle}
 use Rattle.schedule.specs.Machine.{ended}
 use Rattle.schedule.specs.Links.{no_thread}
@@ -23,6 +24,11 @@ use Rattle.stealing.specs.Stealing.{deque_turn_on}
 unfoldable pub deque_hindrance : ℕ → ℕ → ℕ → ℕ → ℕ → ℕ
 deque_hindrance turns p w c root =
     pick (eqb turns (2 ^ 64 - 1)) 32 (pick (ltb w p) (pick (eqb root ended) 31 (pick (ltb c p) 0 49)) 30)
+
+-- what a turn says, as the code answers it
+abbrev pub said_in : Result Reply ℕ → Reply
+said_in (Ok x) = x
+said_in (Err n) = Idle
 
 -- a turn that nothing hinders, or 32 where something does not fit
 abbrev pub deque_taken_in : List ℕ → ℕ → ℕ → Memory → Told

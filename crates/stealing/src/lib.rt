@@ -2,14 +2,13 @@
 // (crates/run_memory, specs/Blocks): its list has the lines, its second list the bottoms.
 #![tactic(auto)]
 
-ghost use Rattle.std.specs.Prelude.{◌≡◌, not, ◌&&◌, ℕ, ◌+◌, ◌^◌, ◌<◌, length, get_or, ltb, eqb};
-ghost use Rattle.schedule.specs.declared.Reply.TheVariants.{Idle};
+ghost use Rattle.std.specs.Prelude.{◌≡◌, not, ◌&&◌, ℕ, ◌+◌, ◌^◌, ◌<◌, length, get_or, ltb, eqb, Err};
 ghost use Rattle.schedule.specs.Machine.{ready, ended};
-ghost use Rattle.run_memory.specs.Memory.{told, turn_in};
+ghost use Rattle.run_memory.specs.Memory.{told, turn_in, unless, number_in};
 ghost use Rattle.run_memory.specs.Memory.{hindrance as hindrance_of};
 ghost use Rattle.run_memory.specs.Blocks.{bytes_in, numbers_in, sums_in, memory_of};
 ghost use Rattle.run_memory.specs.Places.{totalled};
-ghost use Rattle.stealing.specs.StealingMemory.{deque_hindrance, deque_taken_in, deque_turn_in};
+ghost use Rattle.stealing.specs.StealingMemory.{said_in, deque_hindrance, deque_taken_in, deque_turn_in};
 ghost use Rattle.stealing.specs.Code.{Going};
 
 use crate::actions::action_fits;
@@ -32,28 +31,6 @@ mod actions;
 mod bottoms;
 mod moves;
 pub mod runs;
-
-// What a turn says: a refusal's number, or 0 and the reply.
-#[derive(Drop)]
-pub struct DequeTold {
-    pub number: u32,
-    pub reply: Reply,
-}
-
-fn refused(number: u32) -> DequeTold
-    ensures { result ≡ record { number = number; reply = Idle } }
-{
-    DequeTold {
-        number,
-        reply: Reply::Idle,
-    }
-}
-
-fn said(reply: Reply) -> DequeTold
-    ensures { result ≡ record { number = 0; reply = reply } }
-{
-    DequeTold { number: 0, reply }
-}
 
 // One turn more is taken.
 fn count(sums: &mut [u64; 1027])
@@ -82,15 +59,14 @@ fn plain(
     words: &mut [u16; 6163],
     numbers: &mut [u32; 18],
     sums: &mut [u64; 1027],
-) -> DequeTold
-    ensures { told result.number result.reply (memory_of bytes.new words.new numbers.new sums.new)
+) -> Result<Reply, u32>
+    ensures nonzero { (n : ℕ) → result ≡ Err n → n ≡ 0 → ⊥ }
+    ensures turn_value { told (number_in result) (said_in result) (memory_of bytes.new words.new numbers.new sums.new)
         ≡ turn_in table.now w (memory_of bytes.old words.old numbers.old sums.old) }
 {
-    let spoken = turn_in(table, w, false, bytes, words, numbers, sums);
-    let reply = spoken.reply;
-    DequeTold {
-        number: spoken.number,
-        reply,
+    match turn_in(table, w, false, bytes, words, numbers, sums) {
+        Ok(taken) => Ok(taken.reply),
+        Err(number) => Err(number),
     }
 }
 
@@ -102,14 +78,15 @@ fn go_on(
     words: &mut [u16; 6163],
     numbers: &mut [u32; 18],
     sums: &mut [u64; 1027],
-) -> DequeTold
+) -> Result<Reply, u32>
     requires { Going (memory_of bytes.old words.old numbers.old sums.old) w }
-    ensures { (c : ℕ) → told result.number result.reply (memory_of bytes.new words.new numbers.new sums.new)
+    ensures nonzero { (n : ℕ) → result ≡ Err n → n ≡ 0 → ⊥ }
+    ensures turn_value { (c : ℕ) → told (number_in result) (said_in result) (memory_of bytes.new words.new numbers.new sums.new)
         ≡ deque_taken_in table.now w c (memory_of bytes.old words.old numbers.old sums.old) }
 {
     let t = thread_at(&*words, w as usize);
     if NO_THREAD <= t {
-        return refused(32);
+        return Err(32);
     }
     let a = row_at(&*words, NEXT, t);
     let actions = bodies(table, threads(table));
@@ -117,7 +94,7 @@ fn go_on(
     if code == END {
         end(actions, t, w as usize, bytes, words, numbers);
         count(sums);
-        return said(Reply::Done {
+        return Ok(Reply::Done {
             thread: t,
             action: a,
         });
@@ -125,11 +102,11 @@ fn go_on(
     if code == FORK {
         let x = argument_in(actions, a as usize);
         if !fork_fits(a, x) {
-            return refused(32);
+            return Err(32);
         }
         fork(x as u16, a, w as usize, t, bytes, words, &*numbers);
         count(sums);
-        return said(Reply::Done {
+        return Ok(Reply::Done {
             thread: t,
             action: a,
         });
@@ -139,7 +116,7 @@ fn go_on(
         if runs_on(&*bytes, x) {
             leave(t, WAITING, w as usize, bytes, words, numbers);
             count(sums);
-            return said(Reply::Wait {
+            return Ok(Reply::Wait {
                 thread: t,
                 child: x as u16,
             });
@@ -170,28 +147,29 @@ fn take(
     words: &mut [u16; 6163],
     numbers: &mut [u32; 18],
     sums: &mut [u64; 1027],
-) -> DequeTold
+) -> Result<Reply, u32>
     requires { hindrance_of (sums_in sums.old).turns (numbers_in numbers.old).workers w (get_or (bytes_in bytes.old).status 0 0) ≡ 0 }
-    ensures { told result.number result.reply (memory_of bytes.new words.new numbers.new sums.new)
+    ensures nonzero { (n : ℕ) → result ≡ Err n → n ≡ 0 → ⊥ }
+    ensures turn_value { told (number_in result) (said_in result) (memory_of bytes.new words.new numbers.new sums.new)
         ≡ deque_taken_in table.now w c (memory_of bytes.old words.old numbers.old sums.old) }
 {
     let turns = total_at(&*sums, TURNS);
     let holds = holds_at(&*bytes, w as usize);
     if !room_for(turns, head_at(&*words, BUSY), holds, w as usize) {
-        return refused(32);
+        return Err(32);
     }
     if !holds {
         if 16 <= c {
-            return refused(32);
+            return Err(32);
         }
         let b = bottom_at(&*words, c as usize);
         if !is_ready(&*bytes, b) {
             count(sums);
-            return refused(0);
+            return Ok(Reply::Idle);
         }
         let actions = bodies(table, threads(table));
         if !action_fits(actions, b, &*bytes, &*words, &*sums) {
-            return refused(32);
+            return Err(32);
         }
         lengths(&*bytes, &*words, &*numbers);
         steal(b, w as usize, bytes, words, numbers);
@@ -199,15 +177,12 @@ fn take(
     go_on(table, w, bytes, words, numbers, sums)
 }
 
-// 32 where no turn can be counted, 30, 31, 49; 0 where none applies.
-fn hindrance(turns: u64, p: u32, w: u32, c: u32, root: u8) -> u32
-    ensures { result ≡ deque_hindrance turns p w c root }
+// 32 where no turn can be counted, 30, 31, 49: the number of what hinders a turn.
+fn hindrance(turns: u64, p: u32, w: u32, c: u32, root: u8) -> Result<(), u32>
+    ensures { result ≡ unless (deque_hindrance turns p w c root) }
 {
-    let number = before_choice(turns, p, w, root);
-    if number != 0 {
-        return number;
-    }
-    if c < p { 0 } else { 49 }
+    before_choice(turns, p, w, root)?;
+    if c < p { Ok(()) } else { Err(49) }
 }
 
 // A turn of worker w with choice c, or 32, 30, 31, 49; 32 again where a number that the turn would write does not fit. Where it refuses, no number of the run changes.
@@ -219,19 +194,17 @@ pub fn deque_turn_in(
     words: &mut [u16; 6163],
     numbers: &mut [u32; 18],
     sums: &mut [u64; 1027],
-) -> DequeTold
-    ensures { told result.number result.reply (memory_of bytes.new words.new numbers.new sums.new)
+) -> Result<Reply, u32>
+    ensures nonzero { (n : ℕ) → result ≡ Err n → n ≡ 0 → ⊥ }
+    ensures turn_value { told (number_in result) (said_in result) (memory_of bytes.new words.new numbers.new sums.new)
         ≡ deque_turn_in table.now w c (memory_of bytes.old words.old numbers.old sums.old) }
 {
-    let number = hindrance(
+    hindrance(
         total_at(&*sums, TURNS),
         setting_at(&*numbers, WORKERS),
         w,
         c,
         status_at(&*bytes, 0),
-    );
-    if number != 0 {
-        return refused(number);
-    }
+    )?;
     take(table, w, c, bytes, words, numbers, sums)
 }

@@ -1,5 +1,5 @@
 -- The answer to any bytes, check by check.
-use Rattle.std.specs.Prelude.{Err}
+use Rattle.std.specs.Prelude.{Err, Ok}
 use mathlib.Core.Path.{◌≡◌, sym, ◌∙◌}
 use Prim.Native.Nat.{ℕ, ◌≤◌, ◌<◌}
 use mathlib.Core.List.{List, [], ◌∷◌}
@@ -19,7 +19,6 @@ use Rattle.schedule.specs.Begin.{max_quota}
 use Rattle.quota.specs.Quota.{max_gap}
 use Rattle.useful_limit.specs.declared.Parts.{Parts}
 use Rattle.useful_limit.specs.declared.Fitted.{Fitted}
-use Rattle.useful_limit.specs.declared.Fitted.TheVariants.{Refused}
 use Rattle.useful_limit.specs.Limits.{workers_check, gap_check, settings}
 use Rattle.useful_limit.specs.Fit.{own_fit, fit_passes, fitted}
 use Rattle.useful_limit.specs.Code.Parts.{parts_of, fit_with, own_answer}
@@ -27,18 +26,18 @@ use Rattle.useful_limit.proofs.InRange.{least_in_range}
 use Rattle.useful_limit.proofs.FromParts.{fit_of}
 
 module _ (s : List ℕ) (p b M : ℕ) where
-  pub many_workers : outside 1 max_workers p ≡ true → Refused (refusal 20 0) ≡ own_answer s p b M
+  pub many_workers : outside 1 max_workers p ≡ true → Err (refusal 20 0) ≡ own_answer s p b M
   unfolding own_answer try_pass try_from try_at
   many_workers h = rw h
 
   module _ (h : outside 1 max_workers p ≡ false) where
-    pub wide_gap : max_gap < b → Refused (refusal 41 0) ≡ own_answer s p b M
+    pub wide_gap : max_gap < b → Err (refusal 41 0) ≡ own_answer s p b M
     unfolding own_answer try_pass try_from try_at
     wide_gap g = rw (h, lt-ltb max_gap b g)
 
-    pub own_fit_lem : b ≤ max_gap → {x : Parts} {y : Fitted} → x ≡ parts_of (table_of s) p b max_quota → y ≡ fit_with x M → y ≡ own_answer s p b M
+    pub own_fit_lem : b ≤ max_gap → {x : Parts} {y : Fitted} → x ≡ parts_of (table_of s) p b max_quota → y ≡ fit_with x M → Ok y ≡ own_answer s p b M
     unfolding own_answer try_pass try_from try_at
-    own_fit_lem g e d = rw (h, le-ltb max_gap b g, ← fit_of (table_of s) p b M (least_in_range s), ← e) d
+    own_fit_lem g e d = rw (h, le-ltb max_gap b g, ← fit_of (table_of s) p b M (least_in_range s), ← e, d)
 
   -- ---- the whole answer
 
@@ -46,7 +45,7 @@ module _ (s : List ℕ) (p b M : ℕ) where
   unfolding first_found
   found_own = first_found_append (passes s) (settings (workers_check p ∷ gap_check b ∷ []) ∷ []) ∙ rw (or_else_last (try_pass (settings (workers_check p ∷ gap_check b ∷ []))))
 
-  pub refused_own : (r : Refusal) → loaded s ≡ Err r → Refused r ≡ fitted s p b M
+  pub refused_own : (r : Refusal) → loaded s ≡ Err r → Err r ≡ fitted s p b M
   unfolding fitted
   refused_own r e =
       let f : first_found (passes s) ≡ Err r = (found_exactly (passes s) r).1 ((refused_exactly s r).0 e) in

@@ -30,7 +30,7 @@ use Rattle.quota.specs.Quota.{IsLargest as IsLargestRuled}
 use Rattle.quota.proofs.Largest.{most_largest, none_exactly}
 use Rattle.quota.proofs.Answers.{in_outside}
 use Rattle.useful_limit.specs.declared.Fitted.{Fitted}
-use Rattle.useful_limit.specs.declared.Fitted.TheVariants.{Fits, Short, Refused}
+use Rattle.useful_limit.specs.declared.Fitted.TheVariants.{Fits, Short}
 use Rattle.useful_limit.specs.Limits.{workers_check, gap_check, settings}
 use Rattle.useful_limit.specs.Fit.{IsLargest, NoneFits, IsLeast, Asked, unruled, largest_fit, no_fit, least_need, fits_with, short_with, own_fit, fit_passes, fitted_as, fitted}
 use Rattle.useful_limit.proofs.InRange.{least_in_range, top_in_range, useful_unruled, useful_either, unruled_least, least_need_lem}
@@ -137,12 +137,15 @@ module _ (T : Table) (p b M : ℕ) (r : InRange T (least_quota T)) where
 
 -- ---- the answer to any bytes
 
-fitted_fits : (f : Result ⊤ Refusal) (x : Fitted) (K X : ℕ) → (fitted_as f x ≡ Fits K X) ↔ ((f ≡ Ok tt) × (x ≡ Fits K X))
-fitted_fits (Ok _) x K X = ((λ h. (refl, h)), (λ h. h.1))
+ok_inj : {x y : Fitted} → Ok {E = Refusal} x ≡ Ok y → x ≡ y
+ok_inj h = cc
+
+fitted_fits : (f : Result ⊤ Refusal) (x : Fitted) (K X : ℕ) → (fitted_as f x ≡ Ok (Fits K X)) ↔ ((f ≡ Ok tt) × (x ≡ Fits K X))
+fitted_fits (Ok _) x K X = ((λ h. (refl, ok_inj h)), (λ h. ap Ok h.1))
 fitted_fits (Err r) x K X = ((λ h. no_way (cc)), (λ h. no_way (cc)))
 
-fitted_short : (f : Result ⊤ Refusal) (x : Fitted) (K X : ℕ) → (fitted_as f x ≡ Short K X) ↔ ((f ≡ Ok tt) × (x ≡ Short K X))
-fitted_short (Ok _) x K X = ((λ h. (refl, h)), (λ h. h.1))
+fitted_short : (f : Result ⊤ Refusal) (x : Fitted) (K X : ℕ) → (fitted_as f x ≡ Ok (Short K X)) ↔ ((f ≡ Ok tt) × (x ≡ Short K X))
+fitted_short (Ok _) x K X = ((λ h. (refl, ok_inj h)), (λ h. ap Ok h.1))
 fitted_short (Err r) x K X = ((λ h. no_way (cc)), (λ h. no_way (cc)))
 
 module _ (s : List ℕ) (p b : ℕ) where
@@ -166,7 +169,7 @@ module _ (s : List ℕ) (p b : ℕ) where
       ))
 
   -- a quota and a limit are given exactly when the checks pass, it is the largest that fits, and that is its limit
-  pub fit_exactly : (M K X : ℕ) → (fitted s p b M ≡ Fits K X) ↔ (Asked s p b × IsLargest (table_of s) p b M K × (X ≡ useful_limit (table_of s) p K b))
+  pub fit_exactly : (M K X : ℕ) → (fitted s p b M ≡ Ok (Fits K X)) ↔ (Asked s p b × IsLargest (table_of s) p b M K × (X ≡ useful_limit (table_of s) p K b))
   unfolding fitted
   fit_exactly M K X =
       let o = own_fits (table_of s) p b M (least_in_range s) K X in
@@ -176,7 +179,7 @@ module _ (s : List ℕ) (p b : ℕ) where
       )
 
   -- none is given exactly when the checks pass and none fits; and then the least that any in the range needs, and the least such quota
-  pub short_exactly : (M K X : ℕ) → (fitted s p b M ≡ Short K X) ↔ (Asked s p b × NoneFits (table_of s) p b M × IsLeast (table_of s) p b K × (X ≡ useful_limit (table_of s) p K b))
+  pub short_exactly : (M K X : ℕ) → (fitted s p b M ≡ Ok (Short K X)) ↔ (Asked s p b × NoneFits (table_of s) p b M × IsLeast (table_of s) p b K × (X ≡ useful_limit (table_of s) p K b))
   unfolding fitted
   short_exactly M K X =
       let o = own_short (table_of s) p b M (least_in_range s) K X in

@@ -1,5 +1,6 @@
 -- The few numbers of an accepted table: that they are small, and what the code's parts come to.
-use Rattle.std.specs.Prelude.{Err, Ok}
+use Rattle.std.specs.Prelude.{Err, Ok, Result}
+use Rattle.std.specs.Result.{result_unwrap_or}
 use mathlib.Core.Path.{◌≡◌, refl, sym, ap, ◌∙◌}
 use Prim.Native.Nat.{ℕ, ◌+◌, ◌-◌, ◌*◌, ◌≤◌, ◌<◌}
 use native.Mathlib.Omega.{arith}
@@ -61,29 +62,15 @@ module _ (s : List ℕ) (rules : Rules s) where
 
   -- ---- the code's parts
 
-  pub peak_given : (load : ℕ) (resting : Bool) {v : ℕ} → load ≤ 16 → Ok v ≡ peaked s load resting → v ≡ peak_on (table_of s) (standing (table_of s) resting) 0 load
+  -- no check applies to it
+  pub peak_given : (load : ℕ) (resting : Bool) {a : Result ℕ Refusal} {v : ℕ} → load ≤ 16 → a ≡ peaked s load resting → v ≡ result_unwrap_or a 0
+      → v ≡ peak_on (table_of s) (standing (table_of s) resting) 0 load
   unfolding peaked
-  peak_given load resting {v} h e =
-      let d : Ok v ≡ Ok (peak_on T (standing T resting) 0 load) = rw ((passes_rules s).1 rules, le-ltb 16 load h) at e in
-      cc
+  peak_given load resting h e d = d ∙ rw (e, (passes_rules s).1 rules, le-ltb 16 load h)
 
-  pub peak_refused : (load : ℕ) (resting : Bool) {x : Refusal} → load ≤ 16 → Err x ≡ peaked s load resting → ⊥
-  unfolding peaked
-  peak_refused load resting {x} h e =
-      let d : Err x ≡ Ok (peak_on T (standing T resting) 0 load) = rw ((passes_rules s).1 rules, le-ltb 16 load h) at e in
-      no_way (cc)
-
-  pub parallel_given : {v : ℕ} → Ok v ≡ paralleled s → v ≡ parallel_peak (table_of s)
+  pub parallel_given : {a : Result ℕ Refusal} {v : ℕ} → a ≡ paralleled s → v ≡ result_unwrap_or a 0 → v ≡ parallel_peak (table_of s)
   unfolding paralleled
-  parallel_given {v} e =
-      let d : Ok v ≡ Ok (parallel_peak T) = rw ((passes_rules s).1 rules) at e in
-      cc
-
-  pub parallel_refused : {x : Refusal} → Err x ≡ paralleled s → ⊥
-  unfolding paralleled
-  parallel_refused {x} e =
-      let d : Err x ≡ Ok (parallel_peak T) = rw ((passes_rules s).1 rules) at e in
-      no_way (cc)
+  parallel_given e d = d ∙ rw (e, (passes_rules s).1 rules)
 
   pub resting_is : (p : ℕ) {x y : ℕ} → x ≡ peak_on (table_of s) (standing (table_of s) true) 0 (p - 1) → y ≡ rise_along (table_of s) → x + p * y ≡ resting_peak (table_of s) p
   unfolding resting_peak

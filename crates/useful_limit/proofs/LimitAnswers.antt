@@ -18,14 +18,13 @@ use Rattle.table.specs.Load.{loaded}
 use Rattle.table.specs.declared.Refusal.{Refusal}
 use Rattle.table.proofs.Tests.{no_way}
 use Rattle.table.proofs.Passes.{found_exactly, passes_rules, refused_exactly}
-use Rattle.filling.specs.declared.Filling.{Filling}
 use Rattle.order.specs.Words.{is_nothing}
 use Rattle.filling.specs.Filled.{big, filled_out, fill_pass}
 use Rattle.filling.specs.Filling.{filled_into}
 use Rattle.schedule.specs.Record.{max_workers}
 use Rattle.schedule.proofs.Stores.{Fits}
 use Rattle.schedule.proofs.Beginnings.{silent_runs}
-use Rattle.soundness.specs.Tested.{parents_if, next_if, begin_found, begin_filling, begun_into}
+use Rattle.soundness.specs.Tested.{Filling, parents_if, next_if, begin_found, begin_filling, begun_into}
 use Rattle.soundness.proofs.Fillings.{runs, given_runs, fills_given, fills_none, front_is_lem, fills_whole, sized}
 use Rattle.peaks.specs.Rests.{covered, useful_limit, parallel_peak}
 use Rattle.quota.specs.Quota.{max_gap}

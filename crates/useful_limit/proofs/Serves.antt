@@ -48,7 +48,7 @@ range_begins s p K rules low high r =
     rw (first_found_append (passes s) (begin_passes (table_of s) p K), (passes_rules s).1 rules, begin_passed (table_of s) p K low high r) in
     record { small = small; in_place = place; found = found; begun = rw (found, place) }
 
-pub fit_serves : (s : List ℕ) (p b M K X : ℕ) → fitted s p b M ≡ Fits K X → Begins s p K × (useful_limit (table_of (filled_out s K)) p K b ≤ M)
+pub fit_serves : (s : List ℕ) (p b M K X : ℕ) → fitted s p b M ≡ Ok (Fits K X) → Begins s p K × (useful_limit (table_of (filled_out s K)) p K b ≤ M)
 fit_serves s p b M K X e =
     let (asked, largest, is) = (fit_exactly s p b M K X).0 e in
     let begins : Begins s p K = range_begins s p K asked.rules asked.some_worker asked.few_workers largest.in_range in

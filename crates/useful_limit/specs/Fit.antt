@@ -12,7 +12,7 @@ use Rattle.schedule.specs.Begin.{max_quota}
 use Rattle.peaks.specs.Rests.{stretch, useful_limit}
 use Rattle.quota.specs.Quota.{least_quota, InRange, max_gap, most_quota, no_quota}
 use Rattle.useful_limit.specs.declared.Fitted.{Fitted}
-use Rattle.useful_limit.specs.declared.Fitted.TheVariants.{Fits, Short, Refused}
+use Rattle.useful_limit.specs.declared.Fitted.TheVariants.{Fits, Short}
 use Rattle.useful_limit.specs.Limits.{workers_check, gap_check, settings}
 
 -- ---- as it is asked
@@ -77,9 +77,9 @@ own_fit T p b M = pick (no_fit T p b M) (short_with T p b (least_need T p b)) (f
 abbrev pub fit_passes : List ℕ → ℕ → ℕ → List Pass
 fit_passes s p b = passes s ++ (settings (workers_check p ∷ gap_check b ∷ []) ∷ [])
 
-abbrev pub fitted_as : Result ⊤ Refusal → Fitted → Fitted
-fitted_as (Ok _) x = x
-fitted_as (Err r) x = Refused r
+abbrev pub fitted_as : Result ⊤ Refusal → Fitted → Result Fitted Refusal
+fitted_as (Ok _) x = Ok x
+fitted_as (Err r) x = Err r
 
-unfoldable pub fitted : List ℕ → ℕ → ℕ → ℕ → Fitted
+unfoldable pub fitted : List ℕ → ℕ → ℕ → ℕ → Result Fitted Refusal
 fitted s p b M = fitted_as (first_found (fit_passes s p b)) (own_fit (table_of s) p b M)

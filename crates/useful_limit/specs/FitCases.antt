@@ -18,7 +18,7 @@ use Rattle.peaks.specs.Peak.{fresh, gain, most, peak_there, peak_within, workers
 use Rattle.peaks.specs.Rests.{stretch_begins, rests, drawn_before, stretch, covered, rested, rise, R, resting_peak, useful_limit, best_within, parallel_peak}
 use Rattle.quota.specs.Quota.{least_quota, cost_of, most_within, most_quota, no_quota}
 use Rattle.useful_limit.specs.declared.Fitted.{Fitted}
-use Rattle.useful_limit.specs.declared.Fitted.TheVariants.{Fits, Short, Refused}
+use Rattle.useful_limit.specs.declared.Fitted.TheVariants.{Fits, Short}
 use Rattle.useful_limit.specs.Limits.{numbers_of, limits}
 use Rattle.useful_limit.specs.Fit.{largest_fit, no_fit, cover_quota, least_need, own_fit, fitted}
 
@@ -64,26 +64,26 @@ pub record FitCase : Type 0 where
   pub workers : ℕ
   pub gap : ℕ
   pub memory : ℕ
-  pub answer : Fitted
+  pub answer : Result Fitted Refusal
 
-abbrev asked : List ℕ → ℕ → ℕ → ℕ → Fitted → FitCase
+abbrev asked : List ℕ → ℕ → ℕ → ℕ → Result Fitted Refusal → FitCase
 asked s p b M x = record { bytes = s; workers = p; gap = b; memory = M; answer = x }
 
 unfoldable pub fit_cases : List FitCase
 unfolding code_of
 fit_cases =
-    asked E 2 1 55 (Fits 16777215 12)
-    ∷ asked E 2 1 12 (Fits 16777215 12)
-    ∷ asked E 2 1 11 (Short 6 12)
-    ∷ asked E 2 0 12 (Fits 16777215 12)
-    ∷ asked E 1 0 6 (Fits 16777215 6)
-    ∷ asked E 1 1 5 (Short 6 6)
-    ∷ asked least 16 65535 0 (Fits 16777215 0)
+    asked E 2 1 55 (Ok (Fits 16777215 12))
+    ∷ asked E 2 1 12 (Ok (Fits 16777215 12))
+    ∷ asked E 2 1 11 (Ok (Short 6 12))
+    ∷ asked E 2 0 12 (Ok (Fits 16777215 12))
+    ∷ asked E 1 0 6 (Ok (Fits 16777215 6))
+    ∷ asked E 1 1 5 (Ok (Short 6 6))
+    ∷ asked least 16 65535 0 (Ok (Fits 16777215 0))
     -- the order of the checks: the table's own, 20, 41
-    ∷ asked overfreed 0 65536 0 (Refused (refusal 10 1))
-    ∷ asked E 0 65536 0 (Refused (refusal 20 0))
-    ∷ asked E 17 0 0 (Refused (refusal 20 0))
-    ∷ asked E 2 65536 0 (Refused (refusal 41 0))
+    ∷ asked overfreed 0 65536 0 (Err (refusal 10 1))
+    ∷ asked E 0 65536 0 (Err (refusal 20 0))
+    ∷ asked E 17 0 0 (Err (refusal 20 0))
+    ∷ asked E 2 65536 0 (Err (refusal 41 0))
     ∷ []
 
 pub fits_worked : map (λ (c : FitCase). fitted c.bytes c.workers c.gap c.memory) fit_cases ≡ map (λ (c : FitCase). c.answer) fit_cases

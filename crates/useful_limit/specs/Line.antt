@@ -8,7 +8,7 @@ use Rattle.text.specs.Text.{ascii, digits_of, decimal, newline, refused_line}
 use Rattle.quota.specs.Line.{workers_in, gap_in, memory_in}
 use Rattle.useful_limit.specs.declared.Numbers.{Numbers}
 use Rattle.useful_limit.specs.declared.Fitted.{Fitted}
-use Rattle.useful_limit.specs.declared.Fitted.TheVariants.{Fits, Short, Refused}
+use Rattle.useful_limit.specs.declared.Fitted.TheVariants.{Fits, Short}
 use Rattle.useful_limit.specs.Limits.{limits}
 use Rattle.useful_limit.specs.Fit.{fitted}
 
@@ -33,8 +33,8 @@ limits_example = refl
 
 -- ---- fitquota: the input of `maxquota`; under 13 bytes 33
 
-unfoldable pub fitted_to : List ℕ → Fitted
-fitted_to s = pick (ltb (length s) 13) (Refused (refusal 33 0)) (fitted (drop 13 s) (workers_in s) (gap_in s) (memory_in s))
+unfoldable pub fitted_to : List ℕ → Result Fitted Refusal
+fitted_to s = pick (ltb (length s) 13) (Err (refusal 33 0)) (fitted (drop 13 s) (workers_in s) (gap_in s) (memory_in s))
 
 unfoldable pub fits_line : ℕ → ℕ → List ℕ
 fits_line K X = ascii "quota " ++ decimal K ++ ascii " memory " ++ decimal X ++ newline
@@ -42,15 +42,15 @@ fits_line K X = ascii "quota " ++ decimal K ++ ascii " memory " ++ decimal X ++ 
 unfoldable pub short_line : ℕ → ℕ → List ℕ
 short_line K X = ascii "none memory " ++ decimal X ++ ascii " quota " ++ decimal K ++ newline
 
-abbrev pub fitted_line : Fitted → List ℕ
-fitted_line (Fits K X) = fits_line K X
-fitted_line (Short K X) = short_line K X
-fitted_line (Refused r) = refused_line r
+abbrev pub fitted_line : Result Fitted Refusal → List ℕ
+fitted_line (Ok (Fits K X)) = fits_line K X
+fitted_line (Ok (Short K X)) = short_line K X
+fitted_line (Err r) = refused_line r
 
-fits_example : fitted_line (Fits 16777215 12) ≡ ascii "quota 16777215 memory 12\n"
+fits_example : fitted_line (Ok (Fits 16777215 12)) ≡ ascii "quota 16777215 memory 12\n"
 unfolding fits_line decimal digits_of
 fits_example = refl
 
-short_example : fitted_line (Short 6 12) ≡ ascii "none memory 12 quota 6\n"
+short_example : fitted_line (Ok (Short 6 12)) ≡ ascii "none memory 12 quota 6\n"
 unfolding short_line decimal digits_of
 short_example = refl

@@ -1,17 +1,9 @@
 // The quota that fits, from a few numbers of a table.
-ghost use Rattle.std.specs.Prelude.{◌≡◌, ◌≤◌, min};
+ghost use Rattle.std.specs.Prelude.{◌≡◌, ◌≤◌};
 ghost use Rattle.useful_limit.specs.Code.Parts.{Sums, ruled_need, rested_need, need_with, unruled_with, fits_at, short_at, short_with, fit_with};
 
 use crate::{Fitted, Parts};
 use quota::most_within;
-use table::larger;
-
-// The lesser of two amounts.
-pub fn lower(a: u64, b: u64) -> u64
-    ensures { result ≡ min a b }
-{
-    if a < b { a } else { b }
-}
 
 // By the rule with b.
 fn ruled_need(x: Parts, quota: u32) -> u64
@@ -40,13 +32,13 @@ pub(crate) fn need(x: Parts, quota: u32) -> u64
     requires { Sums x × (quota ≤ 16777215) }
     ensures { result ≡ need_with x quota }
 {
-    lower(x.peak, lower(ruled_need(x, quota), rested_need(x, quota)))
+    x.peak.min(ruled_need(x, quota).min(rested_need(x, quota)))
 }
 
 fn unruled(x: Parts) -> u64
     ensures { result ≡ unruled_with x }
 {
-    lower(x.peak, rested_need(x, 16777215))
+    x.peak.min(rested_need(x, 16777215))
 }
 
 fn fits_at(x: Parts, quota: u32) -> Fitted
@@ -75,7 +67,7 @@ fn short(x: Parts) -> Fitted
     ensures { result ≡ short_with x }
 {
     let least = x.least;
-    let cover = larger(least as u64, x.stretch);
+    let cover = (least as u64).max(x.stretch);
     if 16777215 < cover {
         return short_at(x, least);
     }

@@ -1,5 +1,5 @@
 // The few numbers of an accepted table.
-ghost use Rattle.std.specs.Prelude.{◌≡◌, ◌-◌, ◌*◌, ◌≤◌};
+ghost use Rattle.std.specs.Prelude.{◌≡◌, ◌≤◌};
 ghost use Rattle.table.specs.Format.{table_of};
 ghost use Rattle.table.specs.Rules.{Rules};
 ghost use Rattle.peaks.specs.Peak.{peak_on};
@@ -12,10 +12,11 @@ use crate::Parts;
 use peak_walk::along::{rise, stretch};
 use peak_walk::{parallel_in, peak_in};
 use quota::allocs::least_quota;
+use quota::cost;
 use table::Facts;
 
-// The root's peak at a load.
-fn peak_at(
+// The root's peak at a load, over all places or over resting places alone.
+pub fn peak_at(
     table: &[u8],
     load: u8,
     resting: bool,
@@ -27,11 +28,7 @@ fn peak_at(
     requires { Rules table.now × (load ≤ 16) }
     ensures { result ≡ peak_on (table_of table.now) (standing (table_of table.now) resting) 0 load }
 {
-    let answer = peak_in(table, load, resting, rises, falls, peaks, rows);
-    match answer {
-        Ok(peak) => peak,
-        Err(_) => 0,
-    }
+    peak_in(table, load, resting, rises, falls, peaks, rows).unwrap_or(0)
 }
 
 // Over resting places, with what p threads may have drawn since theirs.
@@ -55,19 +52,7 @@ pub(crate) fn parallel_at(table: &[u8], rises: &mut [u64; 1024], falls: &mut [u6
     requires { Rules table.now }
     ensures { result ≡ parallel_peak (table_of table.now) }
 {
-    let answer = parallel_in(table, rises, falls);
-    match answer {
-        Ok(peak) => peak,
-        Err(_) => 0,
-    }
-}
-
-// What each unit of quota adds to demand 3's limit.
-fn cost(p: u8, b: u32, depth: u16) -> u64
-    requires { Ready p b depth }
-    ensures { result ≡ b * (p - 1) * (depth - 1) }
-{
-    (b as u64) * ((p - 1) as u64) * ((depth - 1) as u64)
+    parallel_in(table, rises, falls).unwrap_or(0)
 }
 
 // The stretches draw under a quota.

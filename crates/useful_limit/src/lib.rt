@@ -8,7 +8,6 @@ pub mod line;
 
 ghost use Rattle.std.specs.Prelude.{◌≡◌, ◌++◌, length, drop, replicate};
 ghost use Rattle.io.specs.Counts.{IsPrefixLen};
-ghost use Rattle.table.specs.Pass.{refusal};
 ghost use Rattle.quota.specs.Code.Steps.{Accepted};
 ghost use Rattle.useful_limit.specs.Limits.{limits_in, limits_into};
 ghost use Rattle.useful_limit.specs.Fit.{fitted};
@@ -16,16 +15,15 @@ ghost use Rattle.useful_limit.specs.Line.{limits_to, limits_line, fitted_to, fit
 ghost use Rattle.useful_limit.specs.Code.Parts.{own_answer};
 
 use fit::fit;
-pub use fit::lower;
 use gather::parts;
+pub use gather::peak_at;
 use limit::limit_answer;
 pub use limit::wide_fault;
 use line::{answer_line, answer_to, limit_to, limits_line};
-use quota::outside;
-use table::{Facts, Refusal};
+use table::{Facts, Refusal, outside};
 
 // What is said of the table that runs: the useful limit, S1, S_p, the parallel peak, and the most that a stretch draws under K.
-#[derive(Drop)]
+#[derive(Clone, Copy, PartialEq, Eq, Debug)]
 pub struct Numbers {
     pub memory: u64,
     pub serial: u64,
@@ -34,15 +32,15 @@ pub struct Numbers {
     pub stretch: u64,
 }
 
-// The largest quota and the limit with it; or, where none fits, the quota that needs the least, and how much; or the check that applies.
-#[derive(Drop)]
+// The largest quota and the limit with it; or, where none fits, the quota that needs the least, and how much.
+#[derive(Clone, Copy, PartialEq, Eq, Debug)]
 pub enum Fitted {
     Fits { quota: u32, memory: u64 },
     Short { quota: u32, memory: u64 },
-    Refused(Refusal),
 }
 
 // Of a table, p and b: S1, what each unit of quota adds to demand 3's limit, whether b is 0, S_p, the peak over resting places, the most that a stretch draws under a quota, and the least quota.
+// `free` is no flag beside `cost`: with b 0 the cost is 0, and so it is for one worker, where the rule stands.
 #[derive(Clone, Copy)]
 pub(crate) struct Parts {
     pub(crate) serial: u64,
@@ -55,7 +53,7 @@ pub(crate) struct Parts {
 }
 
 // The useful limit of the table that runs, and what it is made of. The table is filled out into the buffer, where it has to be; 36,868 bytes are always enough. The working memory may hold
-// anything and is left cleared.
+// anything and is left cleared. Six arrays by themselves and no struct: C lends each.
 pub fn limit_in(
     table: &[u8],
     p: u8,
@@ -98,7 +96,7 @@ pub fn fit_in(
     depths: &mut [u16; 1024],
     peaks: &mut [u64; 17408],
     rows: &mut [u64; 17408],
-) -> Fitted
+) -> Result<Fitted, Refusal>
     ensures value { result ≡ fitted table.now p b memory }
     ensures rises_after { (rises.new ≡ replicate 1024 0) × (falls.new ≡ replicate 1024 0) × (serials.new ≡ replicate 1024 0) × (depths.new ≡ replicate 1024 0)
         × (peaks.new ≡ replicate 17408 0) × (rows.new ≡ replicate 17408 0) }
@@ -145,14 +143,11 @@ fn answer(
     depths: &mut [u16; 1024],
     peaks: &mut [u64; 17408],
     rows: &mut [u64; 17408],
-) -> Fitted
+) -> Result<Fitted, Refusal>
     ensures { result ≡ fitted table.now p b memory }
 {
-    let loaded = facts::load_in(table, rises, falls, serials, depths);
-    match loaded {
-        Err(r) => Fitted::Refused(r),
-        Ok(facts) => fit_for(table, facts, p, b, memory, rises, falls, peaks, rows),
-    }
+    let facts = facts::load_in(table, rises, falls, serials, depths)?;
+    fit_for(table, facts, p, b, memory, rises, falls, peaks, rows)
 }
 
 // Checks 20 and 41 on an accepted table.
@@ -166,24 +161,16 @@ fn fit_for(
     falls: &mut [u64; 1024],
     peaks: &mut [u64; 17408],
     rows: &mut [u64; 17408],
-) -> Fitted
+) -> Result<Fitted, Refusal>
     requires { Accepted table.now facts }
     ensures { result ≡ own_answer table.now p b memory }
 {
-    if outside(1, 16, p as u32) {
-        return refuse(20);
+    if outside(1, 16, p as usize) {
+        return Err(Refusal::new(20, 0));
     }
     if 65535 < b {
-        return refuse(41);
+        return Err(Refusal::new(41, 0));
     }
-    fit(
-        parts(table, facts, p, b, 16777215, rises, falls, peaks, rows),
-        memory,
-    )
-}
-
-pub(crate) fn refuse(number: u8) -> Fitted
-    ensures { result ≡ Fitted.Refused (refusal number 0) }
-{
-    Fitted::Refused(Refusal { number, place: 0 })
+    let parts = parts(table, facts, p, b, 16777215, rises, falls, peaks, rows);
+    Ok(fit(parts, memory))
 }

@@ -8,14 +8,13 @@ ghost use Rattle.quota.specs.Code.Steps.{Accepted, Ready};
 ghost use Rattle.useful_limit.specs.Limits.{numbers_of, limits_in, limits_into};
 ghost use Rattle.useful_limit.specs.Code.Parts.{Asked, wide_fault};
 
+use crate::Numbers;
 use crate::fit::need;
 use crate::gather::{parallel_at, parts};
-use crate::Numbers;
 use checks::check_in;
 use filling::fill_in;
-use quota::outside;
 use soundness::begin_fault;
-use table::{Facts, Refusal};
+use table::{Facts, Refusal, outside};
 
 // Of an accepted table.
 fn numbers(
@@ -60,13 +59,8 @@ fn numbers_for(
     requires { Rules table.now × Asked p quota b }
     ensures { result ≡ Ok (numbers_of (table_of table.now) p quota b) }
 {
-    let loaded = facts::load_in(table, rises, falls, serials, depths);
-    match loaded {
-        Err(r) => Err(r),
-        Ok(facts) => Ok(numbers(
-            table, facts, p, quota, b, rises, falls, peaks, rows,
-        )),
-    }
+    let facts = facts::load_in(table, rises, falls, serials, depths)?;
+    Ok(numbers(table, facts, p, quota, b, rises, falls, peaks, rows))
 }
 
 // Where a number behind p is out of its range: the table's own checks, then 20, then that number's. The working memory may hold anything and is left cleared.
@@ -84,13 +78,10 @@ pub fn wide_fault(
     if let Err(r) = found {
         return r;
     }
-    if outside(1, 16, p as u32) {
-        return Refusal {
-            number: 20,
-            place: 0,
-        };
+    if outside(1, 16, p as usize) {
+        return Refusal::new(20, 0);
     }
-    Refusal { number, place: 0 }
+    Refusal::new(number, 0)
 }
 
 // The working memory is left as it was used.
@@ -113,24 +104,17 @@ pub(crate) fn limit_answer(
     if 65535 < b {
         return Err(wide_fault(table, p, 41, rises, falls));
     }
-    let filling = begin_fault(table, p, quota, rises, falls);
-    let found = filling.found;
-    if let Err(r) = found {
-        return Err(r);
-    }
-    let k = filling.bytes;
+    let k = begin_fault(table, p, quota, rises, falls)?;
     if k == 0 {
         return numbers_for(
             table, p, quota, b, rises, falls, serials, depths, peaks, rows,
         );
     }
     if filled.len() < k {
-        return Err(Refusal {
-            number: 61,
-            place: 0,
-        });
+        return Err(Refusal::new(61, 0));
     }
-    fill_in(table, quota, filled, rises, falls);
+    // No check applies.
+    let _ = fill_in(table, quota, filled, rises, falls);
     numbers_for(
         &filled[..k],
         p,

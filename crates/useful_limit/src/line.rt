@@ -1,20 +1,19 @@
 // The lines of `fitquota` and `memlimit`: their input taken apart, and their answer put as text.
 ghost use Rattle.std.specs.Prelude.{◌≡◌, ◌≤◌, ◌++◌, length, drop};
-ghost use Rattle.table.specs.Format.{u24_at, u32_at};
-ghost use Rattle.table.specs.Sum.{Read};
 ghost use Rattle.useful_limit.specs.Limits.{limits};
 ghost use Rattle.useful_limit.specs.Fit.{fitted};
 ghost use Rattle.useful_limit.specs.Line.{limits_to, numbers_line, limits_line, fitted_to, fits_line, short_line, fitted_line};
 
-use crate::{Fitted, Numbers, fit_in, limit_in, refuse};
+use crate::{Fitted, Numbers, fit_in, limit_in};
 use lines::put_answer;
 use quota::line::{gap_in, memory_in};
-use table::read::{byte, word};
 use table::Refusal;
+use table::front::{four_bytes, three_bytes};
+use table::read::byte;
 use text::{put_labelled, put_word};
 
 // In working memory of its own.
-fn fit_whole(table: &[u8], p: u8, b: u32, memory: u64) -> Fitted
+fn fit_whole(table: &[u8], p: u8, b: u32, memory: u64) -> Result<Fitted, Refusal>
     ensures { result ≡ fitted table.now p b memory }
 {
     let mut rises = [0u64; 1024];
@@ -38,11 +37,11 @@ fn fit_whole(table: &[u8], p: u8, b: u32, memory: u64) -> Fitted
 }
 
 // Check 33, and the answer where it does not apply.
-pub(crate) fn answer_to(input: &[u8]) -> Fitted
+pub(crate) fn answer_to(input: &[u8]) -> Result<Fitted, Refusal>
     ensures { result ≡ fitted_to input.now }
 {
     if input.len() < 13 {
-        return refuse(33);
+        return Err(Refusal::new(33, 0));
     }
     fit_whole(
         &input[13..],
@@ -73,15 +72,15 @@ fn short_line(quota: u32, memory: u64, out: &mut [u8; 80]) -> usize
 }
 
 // The line of an answer, and its length.
-pub(crate) fn answer_line(answer: Fitted, out: &mut [u8; 80]) -> usize
+pub(crate) fn answer_line(answer: Result<Fitted, Refusal>, out: &mut [u8; 80]) -> usize
     ensures value { result ≡ length (fitted_line answer) }
     ensures out_after { out.new ≡ fitted_line answer ++ drop result out.old }
     ensures upper_bound { result ≤ 64 }
 {
     match answer {
-        Fitted::Fits { quota, memory } => fits_line(quota, memory, out),
-        Fitted::Short { quota, memory } => short_line(quota, memory, out),
-        Fitted::Refused(refusal) => text::table_line(Err(refusal), out),
+        Ok(Fitted::Fits { quota, memory }) => fits_line(quota, memory, out),
+        Ok(Fitted::Short { quota, memory }) => short_line(quota, memory, out),
+        Err(refusal) => text::table_line(Err(refusal), out),
     }
 }
 
@@ -113,41 +112,18 @@ fn limit_whole(table: &[u8], p: u8, quota: u32, b: u32) -> Result<Numbers, Refus
     )
 }
 
-fn wide(x: u8) -> usize
-    ensures { Read x 256 result }
-{
-    x as usize
-}
-
-// Of the bytes of `runrounds`: K, 24 bits.
-pub fn quota_in(input: &[u8]) -> u32
-    ensures { result ≡ u24_at input.now 1 }
-{
-    (word(input, 1) + 65536 * wide(byte(input, 3))) as u32
-}
-
-// And the number behind it, here b: 32 bits.
-pub fn number_in(input: &[u8]) -> u32
-    ensures { result ≡ u32_at input.now 4 }
-{
-    (word(input, 4) + 65536 * word(input, 6)) as u32
-}
-
-// Check 33, and the answer where it does not apply.
+// The input is that of `runrounds` with b for L. Check 33, and the answer where it does not apply.
 pub(crate) fn limit_to(input: &[u8]) -> Result<Numbers, Refusal>
     ensures { result ≡ limits_to input.now }
 {
     if input.len() < 8 {
-        return Err(Refusal {
-            number: 33,
-            place: 0,
-        });
+        return Err(Refusal::new(33, 0));
     }
     limit_whole(
         &input[8..],
         byte(input, 0),
-        quota_in(input),
-        number_in(input),
+        three_bytes(input, 1),
+        four_bytes(input, 4),
     )
 }
 

@@ -12,11 +12,11 @@ use Rattle.table.specs.Format.{table_of}
 use Rattle.schedule.specs.declared.Reply.TheVariants.{Idle, Done}
 use Rattle.schedule.specs.Machine.{ended}
 use Rattle.run_memory.specs.declared.runs.Stop.{Stop}
-use Rattle.run_memory.specs.Memory.{Memory, moved_in, told, turn_in, said_of, run_row, Answer, answer}
-use Rattle.run_memory.specs.Runs.{stopped, ends_root, over_in}
+use Rattle.run_memory.specs.Memory.{Memory, moved_in, told, turn_in, number_in, said_at, run_row, Answer, answer}
+use Rattle.run_memory.specs.Runs.{stopped, stopped_at, ends_root, over_in}
 use Rattle.run_memory.proofs.Drives.{Going, refused_same}
 use Rattle.run_memory.proofs.Endings.{Undone, Unending, Ends, says_no_end, says_end}
-use Rattle.run_memory.proofs.Stopping.{stopped_answers}
+use Rattle.run_memory.proofs.Stopping.{Numbered, stopped_answers}
 use Rattle.pace.specs.Pace.{took, next_in}
 use Rattle.wivakkol_pace.specs.Paced.{held_back, PacedTold, paced_told, paced_in, kept}
 use Rattle.wivakkol_pace.specs.PacedRuns.{PacedStop, paced_stop, paced_worker, paced_drive, paced_run, kept_as, paced_list, paced_rounds}
@@ -34,9 +34,8 @@ paced_same s w M P = go (eqb (held_back w M P) 0)
     go false d = (refl, refl)
 
 -- the answer is the one given
-pub stopped_as_lem : {x y : Stop} {M : Memory} {P : List ℕ} {d : PacedStop} → x ≡ y → paced_stop (stopped y.number y.finished y.turns M) P ≡ d
-    → paced_stop (stopped x.number x.finished x.turns M) P ≡ d
-stopped_as_lem e h = rw e h
+pub stopped_as_lem : {x : Stop} (y : Stop) (M : Memory) (P : List ℕ) {d : PacedStop} → x ≡ y → paced_stop (stopped_at y M) P ≡ d → paced_stop (stopped_at x M) P ≡ d
+stopped_as_lem y M P e h = rw e h
 
 -- what is left of a run of at most `limit` turns after i of them is the whole; the root has a place, and has not ended
 pub record Along (s : List ℕ) (who : ℕ → List ℕ → ℕ) (limit : ℕ) (M₀ : Memory) (P₀ : List ℕ) (M : Memory) (P : List ℕ) (i : ℕ) : Type 0 where
@@ -66,6 +65,9 @@ module _ {s : List ℕ} {who : ℕ → List ℕ → ℕ} {limit : ℕ} {M₀ : M
   spent h =
       let z : limit - i ≡ 0 = omega (arith, h) in
       rw (z, open_here) at v.remains
+
+  pub spent_at : limit ≤ i → paced_stop (stopped 0 false limit M) P ≡ whole
+  spent_at h = let e : limit ≡ i = omega (arith, h, v.within) in ap (λ (j : ℕ). paced_stop (stopped 0 false j M) P) e ∙ spent h
 
   module _ (h : i < limit) {w : ℕ} (q : w ≡ who i P) {t : PacedTold} (e : t ≡ paced_in s w M P) where
     here : paced_drive s who (suc (limit - (i + 1))) i M P ≡ whole
@@ -141,9 +143,9 @@ module _ (s : List ℕ) (who : ℕ → List ℕ → ℕ) (rounds : Bool) (limit 
     driven z e = e ∙ rw (ne_eqb (moved_in M).turns 18446744073709551615 h, ← f, z)
 
 -- where a run stopped is put into the row
-pub put : {x : Stop} {M : Memory} {P : List ℕ} {d : PacedStop} {number : ℕ} {row : List ℕ} → paced_stop (stopped x.number x.finished x.turns M) P ≡ d
-    → number ≡ x.number → row ≡ run_row (said_of x.number x.finished) x.turns → kept (answer number row M) P ≡ kept_as d
-put {x = x} {M = M} {P = P} e n r = ap (λ (a : Answer). kept a P) (stopped_answers {x = x} {M = M} refl n r) ∙ ap kept_as e
+pub put : (x : Stop) (M : Memory) (P : List ℕ) {d : PacedStop} {number : ℕ} {row : List ℕ} → paced_stop (stopped_at x M) P ≡ d → Numbered x.finished
+    → number ≡ number_in x.finished → row ≡ run_row (said_at x.finished) x.turns → kept (answer number row M) P ≡ kept_as d
+put x M P e h n r = ap (λ (a : Answer). kept a P) (stopped_answers x M refl h n r) ∙ ap kept_as e
 
 pub list_is : (s l : List ℕ) (M : Memory) (P : List ℕ) → kept_as (paced_run s (paced_worker l false) false (length l) M P) ≡ paced_list s l M P
 unfolding paced_list

@@ -3,30 +3,29 @@ use mathlib.Core.Path.{◌≡◌, ap, ◌∙◌}
 use Prim.Native.Nat.{ℕ}
 use mathlib.Core.List.{List}
 use mathlib.Core.Bool.{Bool, true, false}
-use borrow.Author.Tests.{eq-eqb, ne_eqb}
+use borrow.Author.Tests.{ne_eqb}
 use lib.Dec.{eqb}
+use Rattle.std.specs.Prelude.{Result, ⊤, Ok, Err}
 use Rattle.table.specs.Sum.{pick}
 use Rattle.table.specs.Format.{table_of}
 use Rattle.schedule.specs.declared.Reply.TheVariants.{Idle}
-use Rattle.run_memory.specs.Memory.{Memory, hindrance, answer, no_row, reply_row, Told, told, turn_in, passed_over}
+use Rattle.run_memory.specs.Memory.{Memory, hindrance, answer, no_row, reply_row, Told, told, turn_in, passed_over, unless}
 use Rattle.run_memory.proofs.Endings.{Ends, idle_ends, turn_ends}
 use Rattle.pace.specs.Pace.{may_number, took}
-use Rattle.wivakkol_pace.specs.Paced.{stopped, hindrance_in, held_back, PacedTold, paced_told, paced_in, kept, paced_turn}
-
-pub stopped_else : (n : ℕ) (P : List ℕ) (w : ℕ) → (n ≡ 0 → ⊥) → stopped n P w ≡ 0
-stopped_else n P w d = rw (ne_eqb n 0 d)
-
-pub stopped_by : (n : ℕ) (P : List ℕ) (w : ℕ) → n ≡ 0 → stopped n P w ≡ may_number P w
-stopped_by n P w e = rw (eq-eqb n 0 e)
+use Rattle.wivakkol_pace.specs.Paced.{held_after, hindrance_in, held_back, PacedTold, paced_told, paced_in, kept, paced_turn}
 
 -- of what stands in the memory
-pub tested : {n t t' p p' r r' : ℕ} (w : ℕ) → t ≡ t' → p ≡ p' → r ≡ r' → n ≡ hindrance t p w r → n ≡ hindrance t' p' w r'
+pub tested : {n : Result ⊤ ℕ} {t t' p p' r r' : ℕ} (w : ℕ) → t ≡ t' → p ≡ p' → r ≡ r' → n ≡ unless (hindrance t p w r) → n ≡ unless (hindrance t' p' w r')
 tested w a b c e = rw (← a, ← b, ← c) e
 
 module _ (s : List ℕ) (w : ℕ) (M : Memory) (P : List ℕ) where
-  pub held_as : {n q : ℕ} → n ≡ hindrance_in M w → q ≡ stopped n P w → q ≡ held_back w M P
+  pub held_as : {n q : Result ⊤ ℕ} → n ≡ unless (hindrance_in M w) → q ≡ held_after n P w → q ≡ unless (held_back w M P)
   unfolding held_back
-  held_as e f = rw (← e) f
+  held_as {n} {q} e f = go (eqb (hindrance_in M w) 0) (f ∙ ap (λ (r : Result ⊤ ℕ). held_after r P w) e)
+    where
+      go : (b : Bool) → q ≡ held_after (pick {A = Result ⊤ ℕ} b (Ok tt) (Err (hindrance_in M w))) P w → q ≡ unless (pick b (may_number P w) 0)
+      go true d = d
+      go false d = d
 
   module _ {q : ℕ} (e : q ≡ held_back w M P) where
     pub holds_back : (q ≡ 0 → ⊥) → paced_told (told q Idle M) P ≡ paced_in s w M P

@@ -1,8 +1,8 @@
 -- The paced turn: a turn that the pace does not let through is refused, and one that is taken is counted.
-use Rattle.std.specs.Prelude.{ℕ, List, get_or, eqb}
+use Rattle.std.specs.Prelude.{ℕ, List, get_or, eqb, ⊤, Result, Ok, Err}
 use Rattle.table.specs.Sum.{pick}
 use Rattle.schedule.specs.declared.Reply.TheVariants.{Idle}
-use Rattle.run_memory.specs.Memory.{Memory, Answer, answer, no_row, reply_row, moved_in, hindrance, Told, told, turn_in, passed_over}
+use Rattle.run_memory.specs.Memory.{Memory, Answer, answer, no_row, reply_row, moved_in, hindrance, Told, told, turn_in, passed_over, unless}
 use Rattle.pace.specs.Pace.{may_number, took}
 
 -- what hinders a turn of worker w in a run: 32, 30, 31; 0 where nothing does
@@ -13,6 +13,11 @@ hindrance_in M w = hindrance (moved_in M).turns (get_or M.settings 0 0) w (get_o
 -- A run that is over says so first
 abbrev pub stopped : ℕ → List ℕ → ℕ → ℕ
 stopped number P w = pick (eqb number 0) (may_number P w) 0
+
+-- the same of answers: what hinders the turn otherwise, and what the pace says after it
+abbrev pub held_after : Result ⊤ ℕ → List ℕ → ℕ → Result ⊤ ℕ
+held_after (Ok _) P w = unless (may_number P w)
+held_after (Err n) P w = Ok tt
 
 unfoldable pub held_back : ℕ → Memory → List ℕ → ℕ
 held_back w M P = stopped (hindrance_in M w) P w

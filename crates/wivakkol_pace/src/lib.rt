@@ -2,40 +2,31 @@
 // its own, so that a board without a pace pays nothing for it. include/wivakkol_pace.h has the prototypes.
 #![tactic(auto)]
 
-ghost use Rattle.std.specs.Prelude.{◌≡◌, ◌&&◌, eqb};
+ghost use Rattle.std.specs.Prelude.{◌≡◌, ℕ, ◌&&◌, eqb, Err};
 ghost use Rattle.table.specs.Sum.{pick};
-ghost use Rattle.schedule.specs.declared.Reply.TheVariants.{Idle};
-ghost use Rattle.run_memory.specs.Memory.{told, passed_over, answer};
+ghost use Rattle.run_memory.specs.Memory.{told, number_in, reply_in, passed_in, passed_over, answer};
 ghost use Rattle.run_memory.specs.Blocks.{memory_of};
 ghost use Rattle.pace.specs.Pace.{paced, start_pace, kept_in, may_number, took_number};
-ghost use Rattle.wivakkol_pace.specs.Paced.{stopped, paced_told, paced_in, kept, paced_turn};
+ghost use Rattle.wivakkol_pace.specs.Paced.{held_after, paced_told, paced_in, kept, paced_turn};
 
 use pace::{hinders, took};
 use run_memory::places::{TURNS, WORKERS, setting_at, status_at, total_at};
 use run_memory::replies::put_reply;
-use run_memory::{Spoken, hindrance, turn_in};
-use schedule::Reply;
+use run_memory::{hindrance, turn_in};
+use schedule::Taken;
 
 pub mod runs;
 
-// With which number the pace holds back a turn of worker w, of which `number` says what else hinders it; 0 where it does not.
-fn stops(number: u32, pace: &[u32; 260], w: u32) -> u32
-    ensures { result ≡ stopped number pace.now w }
+// Whether the pace holds back a turn of worker w, and with which number; what hinders it otherwise says so first.
+fn stops(hindered: Result<(), u32>, pace: &[u32; 260], w: u32) -> Result<(), u32>
+    ensures { result ≡ held_after hindered pace.now w }
 {
-    if number != 0 {
-        return 0;
+    if hindered.is_err() {
+        return Ok(());
     }
-    hinders(pace, w)
-}
-
-// A turn that is refused with this number.
-fn refused(number: u32) -> Spoken
-    ensures { result ≡ record { number = number; reply = Idle; passed = 0 } }
-{
-    Spoken {
-        number,
-        reply: Reply::Idle,
-        passed: 0,
+    match hinders(pace, w) {
+        0 => Ok(()),
+        number => Err(number),
     }
 }
 
@@ -52,28 +43,22 @@ pub(crate) fn paced_in(
     bytes: &mut [u8; 1040],
     words: &mut [u16; 6163],
     numbers: &mut [u32; 18],
-) -> Spoken
-    ensures pace_after { paced_told (told result.number result.reply (memory_of bytes.new words.new numbers.new sums.new)) pace.new
+) -> Result<Taken, u32>
+    ensures pace_after { paced_told (told (number_in result) (reply_in result) (memory_of bytes.new words.new numbers.new sums.new)) pace.new
         ≡ paced_in table.now w (memory_of bytes.old words.old numbers.old sums.old) pace.old }
-    ensures passed_value { result.passed ≡ pick (counting && eqb result.number 0) (passed_over (memory_of bytes.old words.old numbers.old sums.old) w) 0 }
+    ensures nonzero { (n : ℕ) → result ≡ Err n → n ≡ 0 → ⊥ }
+    ensures passed_value { passed_in result ≡ pick (counting && eqb (number_in result) 0) (passed_over (memory_of bytes.old words.old numbers.old sums.old) w) 0 }
 {
-    let root = status_at(&*bytes, 0);
-    let number = hindrance(
+    let hindered = hindrance(
         total_at(&*sums, TURNS),
         setting_at(&*numbers, WORKERS),
         w,
-        root,
+        status_at(&*bytes, 0),
     );
-    let held = stops(number, &*pace, w);
-    if held != 0 {
-        return refused(held);
-    }
-    let spoken = turn_in(table, w, counting, bytes, words, numbers, sums);
-    if spoken.number != 0 {
-        return spoken;
-    }
+    stops(hindered, &*pace, w)?;
+    let taken = turn_in(table, w, counting, bytes, words, numbers, sums)?;
     took(pace, w);
-    spoken
+    Ok(taken)
 }
 
 // The paced turn, with how many threads stood left of one that it took. Every number of the row is written.
@@ -90,14 +75,16 @@ pub fn wivakkol_paced_turn_on(
     ensures { kept (answer result row.new (memory_of bytes.new words.new numbers.new sums.new)) pace.new
         ≡ paced_turn table.now w (memory_of bytes.old words.old numbers.old sums.old) pace.old }
 {
-    let spoken = paced_in(table, w, true, sums, pace, bytes, words, numbers);
-    if spoken.number != 0 {
-        *row = [0; 5];
-        return spoken.number;
+    match paced_in(table, w, true, sums, pace, bytes, words, numbers) {
+        Ok(taken) => {
+            put_reply(row, taken.reply, taken.passed);
+            0
+        }
+        Err(number) => {
+            *row = [0; 5];
+            number
+        }
     }
-    let reply = spoken.reply;
-    put_reply(row, reply, spoken.passed);
-    0
 }
 
 // ---- the pace alone

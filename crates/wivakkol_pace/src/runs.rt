@@ -1,8 +1,8 @@
 // Paced runs over a list of workers and in rounds, from C, whatever the memory holds: a run stops at the first turn that the pace holds back as at any refusal (specs/PacedRuns).
-ghost use Rattle.std.specs.Prelude.{◌≡◌, false, ◌&&◌, eqb};
+ghost use Rattle.std.specs.Prelude.{◌≡◌, ℕ, false, ◌&&◌, eqb, Err};
 ghost use Rattle.run_memory.specs.Memory.{answer};
 ghost use Rattle.run_memory.specs.Blocks.{numbers_in, memory_of};
-ghost use Rattle.run_memory.specs.Runs.{stopped};
+ghost use Rattle.run_memory.specs.Runs.{stopped_at};
 ghost use Rattle.wivakkol_pace.specs.Paced.{kept};
 ghost use Rattle.wivakkol_pace.specs.PacedRuns.{paced_stop, paced_worker, paced_drive, paced_run, paced_list, paced_rounds};
 
@@ -10,33 +10,12 @@ use crate::paced_in;
 use pace::next;
 use run_memory::places::{TURNS, WORKERS, setting_at, total_at};
 use run_memory::replies::put_run;
-use run_memory::runs::{Stop, ends_root, root_ended};
+use run_memory::runs::{Stop, ends_root, over, refused, root_ended};
 use schedule::Reply;
 use table::read::byte;
 
-// A refusal after i turns.
-fn refused(number: u32, i: usize) -> Stop
-    ensures { result ≡ record { number = number; finished = false; turns = i } }
-{
-    Stop {
-        number,
-        finished: false,
-        turns: i as u64,
-    }
-}
-
-// The run is over after i turns, at the root's end or not.
-fn over(finished: bool, i: usize) -> Stop
-    ensures { result ≡ record { number = 0; finished = finished; turns = i } }
-{
-    Stop {
-        number: 0,
-        finished,
-        turns: i as u64,
-    }
-}
-
 // The worker whose turn comes after i turns: from the order, or in rounds the one after that of the latest turn.
+// `rounds` and no closure that picks the worker: each would make a loop of its own, with the turn's code in it, and the archive has that code once.
 fn worker_of(order: &[u8], rounds: bool, pace: &[u32; 260], i: usize) -> u32
     ensures { result ≡ paced_worker order.now rounds i pace.now }
 {
@@ -47,6 +26,7 @@ fn worker_of(order: &[u8], rounds: bool, pace: &[u32; 260], i: usize) -> u32
     }
 }
 
+// A loop beside run_memory's: with the turn as a closure over the lent blocks and the pace, one contract of both would be longer than both loops.
 // At most `limit` turns. Each reply is taken apart, and the thread and the action that it names say whether the root ended.
 fn drive(
     table: &[u8],
@@ -59,29 +39,27 @@ fn drive(
     sums: &mut [u64; 1027],
     pace: &mut [u32; 260],
 ) -> Stop
-    ensures { paced_stop (stopped result.number result.finished result.turns (memory_of bytes.new words.new numbers.new sums.new)) pace.new
+    ensures nonzero { (n : ℕ) → result.finished ≡ Err n → n ≡ 0 → ⊥ }
+    ensures run_value { paced_stop (stopped_at result (memory_of bytes.new words.new numbers.new sums.new)) pace.new
         ≡ paced_drive table.now (paced_worker order.now rounds) limit 0 (memory_of bytes.old words.old numbers.old sums.old) pace.old }
 {
     if root_ended(&*bytes) {
         return over(true, 0);
     }
-    let mut i: usize = 0;
-    while i < limit {
+    for i in 0..limit {
         let w = worker_of(order, rounds, &*pace, i);
-        let spoken = paced_in(table, w, false, sums, pace, bytes, words, numbers);
-        if spoken.number != 0 {
-            return refused(spoken.number, i);
-        }
-        let reply = spoken.reply;
-        i += 1;
-        let Reply::Done { thread, action } = reply else {
+        let taken = match paced_in(table, w, false, sums, pace, bytes, words, numbers) {
+            Ok(taken) => taken,
+            Err(number) => return refused(number, i),
+        };
+        let Reply::Done { thread, action } = taken.reply else {
             continue;
         };
         if ends_root(table, thread, action) {
-            return over(true, i);
+            return over(true, i + 1);
         }
     }
-    over(false, i)
+    over(false, limit)
 }
 
 // In rounds a run with no worker is refused.
@@ -103,7 +81,8 @@ pub fn run_in(
     sums: &mut [u64; 1027],
     pace: &mut [u32; 260],
 ) -> Stop
-    ensures { paced_stop (stopped result.number result.finished result.turns (memory_of bytes.new words.new numbers.new sums.new)) pace.new
+    ensures nonzero { (n : ℕ) → result.finished ≡ Err n → n ≡ 0 → ⊥ }
+    ensures run_value { paced_stop (stopped_at result (memory_of bytes.new words.new numbers.new sums.new)) pace.new
         ≡ paced_run table.now (paced_worker order.now rounds) rounds limit (memory_of bytes.old words.old numbers.old sums.old) pace.old }
 {
     if total_at(&*sums, TURNS) == u64::MAX {

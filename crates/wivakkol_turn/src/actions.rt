@@ -17,7 +17,7 @@ pub fn wivakkol_kind(table: &[u8], a: u64) -> u32
     read::code(table, read::threads(table), a as usize) as u32
 }
 
-// The argument, 0 for what is no action of the table.
+// The argument, 0 for what is no action of the table. The same test as of the kind: with the number and the read handed over, one function for both would be longer.
 pub fn wivakkol_argument(table: &[u8], a: u64) -> u32
     ensures { result ≡ argument_of table.now a }
 {

@@ -24,12 +24,14 @@ pub fn wivakkol_turn_on(
     ensures { answer result row.new (memory_of bytes.new words.new numbers.new sums.new)
         ≡ lent_turn table.now w (memory_of bytes.old words.old numbers.old sums.old) }
 {
-    let spoken = turn_in(table, w, true, bytes, words, numbers, sums);
-    if spoken.number != 0 {
-        *row = [0; 5];
-        return spoken.number;
+    match turn_in(table, w, true, bytes, words, numbers, sums) {
+        Ok(taken) => {
+            put_reply(row, taken.reply, taken.passed);
+            0
+        }
+        Err(number) => {
+            *row = [0; 5];
+            number
+        }
     }
-    let reply = spoken.reply;
-    put_reply(row, reply, spoken.passed);
-    0
 }

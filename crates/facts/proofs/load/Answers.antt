@@ -5,19 +5,23 @@ use native.Mathlib.Omega.{arith}
 use Rattle.table.specs.Pass.{first_found}
 use Rattle.table.specs.Checks.{passes}
 use Rattle.facts.specs.Code.Steps.{Kept}
+use Rattle.std.proofs.lemmas.Result.{err_from_is_err_and}
 use Rattle.facts.proofs.Accepted.{kept, small, shallow, few_levels, facts_are, refused, accepted, answered}
 use Rattle.facts.proofs.load.Goals.{After-actions-m}
 use Rattle.facts.proofs.load.Goals as goal
 
 -- the table keeps the rules
 none : (c : After-actions-m) → first_found (passes c.args.table.now) ≡ Ok tt
-none c = sym c.check-found.ensures ∙ c.in_default.is
+none c = sym c.check.ensures ∙ c.in_ok-check.was
 
 known : (c : After-actions-m) → Kept c.args.table.now c.threads-n.result c.actions-m.result
 known c = kept _ (none c) c.threads-n.ensures.value c.actions-m.ensures.value
 
-pub returns-in-Err : goal.returns-in-Err
-returns-in-Err c = let both = answered _ (refused c.args.table.now (sym c.check-found.ensures ∙ c.in-Err.is)) in record { value = both.0; result_value = both.1 }
+pub returns-in_err-check : goal.returns-in_err-check
+returns-in_err-check c =
+    let p = err_from_is_err_and c.from_residual.result c.from_residual.ensures.1 in
+    let both = answered _ (refused c.args.table.now (sym c.check.ensures ∙ c.in_err-check.was)) in
+    record { value = rw (p.1, p.2) both.0; result_value = rw (p.1, p.2) both.1 }
 
 pub serial_amounts-amounts-requires : goal.serial_amounts-amounts-requires
 serial_amounts-amounts-requires c = known (goal.at.serial_amounts-amounts-requires c).After-actions-m

@@ -5,19 +5,22 @@ use native.Mathlib.Omega.{arith}
 use Rattle.table.specs.Pass.{first_found}
 use Rattle.table.specs.Checks.{passes}
 use Rattle.facts.specs.Code.Steps.{Kept}
+use Rattle.std.proofs.lemmas.Result.{err_from_is_err_and}
 use Rattle.facts.proofs.Accepted.{kept, small, shallow, few_levels, facts_are, weighed_not, weighed_is}
 use Rattle.facts.proofs.weigh.Goals.{After-actions-m}
 use Rattle.facts.proofs.weigh.Goals as goal
 
 -- the table keeps the rules
 none : (c : After-actions-m) → first_found (passes c.args.table.now) ≡ Ok tt
-none c = sym c.check_in-found.ensures.value ∙ c.in_default.is
+none c = sym c.check_in.ensures.value ∙ c.in_ok-check_in.was
 
 known : (c : After-actions-m) → Kept c.args.table.now c.threads-n.result c.actions-m.result
 known c = kept _ (none c) c.threads-n.ensures.value c.actions-m.ensures.value
 
-pub returns-in-Err : goal.returns-in-Err
-returns-in-Err c = weighed_not c.args.table.now (sym c.check_in-found.ensures.value ∙ c.in-Err.is)
+pub returns-in_err-check_in : goal.returns-in_err-check_in
+returns-in_err-check_in c =
+    let p = err_from_is_err_and c.from_residual.result c.from_residual.ensures.1 in
+    rw (p.1, p.2) (weighed_not c.args.table.now (sym c.check_in.ensures.value ∙ c.in_err-check_in.was))
 
 pub serial_amounts-amounts-requires : goal.serial_amounts-amounts-requires
 serial_amounts-amounts-requires c = known (goal.at.serial_amounts-amounts-requires c).After-actions-m

@@ -3,7 +3,6 @@ use mathlib.Core.Path.{ap, ◌∙◌}
 use Prim.Native.Nat.{ℕ, ◌+◌}
 use Rattle.run_memory.specs.Blocks.{sums_in}
 use Rattle.run_memory.specs.Places.{totalled}
-use borrow.Author.Rules.{rules}
 use Rattle.stealing.proofs.count.Goals as goal
 
 pub returns : goal.returns

@@ -8,7 +8,6 @@ use lib.ListN.{get_or}
 use lib.Dec.{ltb, eqb}
 use Rattle.schedule.specs.Machine.{ready}
 use Rattle.run_memory.specs.Blocks.{bytes_in}
-use borrow.Author.Rules.{rules}
 use Rattle.stealing.proofs.is_ready.Goals as goal
 
 module _ (status : List ℕ) (b : ℕ) where

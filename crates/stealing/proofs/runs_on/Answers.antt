@@ -1,14 +1,13 @@
 -- `stealing::runs_on` meets its contract.
-use mathlib.Core.Path.{◌≡◌, refl, sym}
+use mathlib.Core.Path.{◌≡◌}
 use Prim.Native.Nat.{ℕ, ◌≤◌, ◌<◌}
 use mathlib.Core.List.{List}
-use mathlib.Core.Bool.{Bool, false, not, ◌&&◌}
+use mathlib.Core.Bool.{false, not, ◌&&◌}
 use borrow.Author.Tests.{lt-ltb, le-ltb}
 use lib.ListN.{get_or}
 use lib.Dec.{ltb, eqb}
 use Rattle.schedule.specs.Machine.{ended}
 use Rattle.run_memory.specs.Blocks.{bytes_in}
-use borrow.Author.Rules.{rules}
 use Rattle.stealing.proofs.runs_on.Goals as goal
 
 module _ (status : List ℕ) (x : ℕ) where

@@ -6,17 +6,15 @@ use mathlib.Core.List.{List}
 use mathlib.Core.Bool.{true, false}
 use lib.ListN.{length}
 use Rattle.table.specs.Format.{table_of}
-use Rattle.array_machine.specs.Counted.{room_for}
-use Rattle.run_memory.specs.Memory.{Memory, worker_in, moved_in}
+use Rattle.run_memory.specs.Memory.{Memory, worker_in}
 use Rattle.run_memory.specs.Blocks.{part, bytes_in, words_in, numbers_in, sums_in, memory_of}
 use Rattle.run_memory.proofs.Parts.{part_length}
 use Rattle.stealing.specs.StealingMemory.{deque_taken_in}
 use Rattle.stealing.specs.Code.{Going, stolen_on}
 use Rattle.run_memory.proofs.Takes.{codes, arguments}
-use Rattle.stealing.proofs.Goes.{spoke, counted_as}
+use Rattle.stealing.proofs.Goes.{counted_as}
 use Rattle.run_memory.proofs.Takes.{asked_room}
 use Rattle.stealing.proofs.Steals.{Roomy, roomy, ready_read, without_room, too_far, idles, steal_unfit, steals, stolen_going}
-use borrow.Author.Rules.{rules}
 use Rattle.stealing.proofs.take.Goals.{then-not-holds+else-c-ge16+else-not-is_ready+else-not-action_fits, else-not-holds, After-action_fits, Else-not-room_for, Joined-not-holds, Then-not-holds}
 use Rattle.stealing.proofs.take.Goals as goal
 
@@ -41,32 +39,30 @@ fits_as f =
 sixteen : (at : ℕ) (l : List ℕ) {n : ℕ} → length l ≡ n → at + 16 < n + 1 → length (part at 16 l) ≡ 16
 sixteen at l {n} e h = part_length at 16 l (omega (arith, e, h))
 
-pub returns-then-not-room_for : goal.returns-then-not-room_for
-returns-then-not-room_for c =
-    spoke c.refused.ensures (without_room c.args.table.now c.args.w c.args.c (memory_of c.args.bytes.now c.args.words.now c.args.numbers.now c.args.sums.now) c.if-not-room_for.true (asked_room c.args.w c.total_at-turns.ensures c.head_at.ensures c.holds_at-holds.ensures c.room_for.ensures))
+pub returns-then-not-room_for-clause-turn_value : goal.returns-then-not-room_for-clause-turn_value
+returns-then-not-room_for-clause-turn_value c =
+    (without_room c.args.table.now c.args.w c.args.c (memory_of c.args.bytes.now c.args.words.now c.args.numbers.now c.args.sums.now) c.if-not-room_for.true (asked_room c.args.w c.total_at-turns.ensures c.head_at.ensures c.holds_at-holds.ensures c.room_for.ensures))
 
-pub returns-then-c-ge16 : goal.returns-then-c-ge16
-returns-then-c-ge16 c =
-    spoke c.refused-then-c-ge16.ensures (too_far c.args.table.now c.args.w c.args.c (memory_of c.args.bytes.now c.args.words.now c.args.numbers.now c.args.sums.now) (room (goal.at.returns-then-c-ge16 c).Else-not-room_for) (empty (goal.at.returns-then-c-ge16 c).Then-not-holds) c.if-c-ge16.true)
+pub returns-then-c-ge16-clause-turn_value : goal.returns-then-c-ge16-clause-turn_value
+returns-then-c-ge16-clause-turn_value c =
+    (too_far c.args.table.now c.args.w c.args.c (memory_of c.args.bytes.now c.args.words.now c.args.numbers.now c.args.sums.now) (room (goal.at.returns-then-c-ge16-clause-turn_value c).Else-not-room_for) (empty (goal.at.returns-then-c-ge16-clause-turn_value c).Then-not-holds) c.if-c-ge16.true)
 
 pub count-requires : goal.count-requires
 count-requires c = (room (goal.at.count-requires c).Else-not-room_for).turns
 
-pub returns-then-not-is_ready : goal.returns-then-not-is_ready
-returns-then-not-is_ready c =
+pub returns-then-not-is_ready-clause-turn_value : goal.returns-then-not-is_ready-clause-turn_value
+returns-then-not-is_ready-clause-turn_value c =
     let d = c in
-    spoke c.refused-then-not-is_ready.ensures
     (counted_as (bytes_in d.args.bytes.now) (words_in d.args.words.now) (numbers_in d.args.numbers.now) (sums_in d.args.sums.now) c.count.ensures
-    (idles d.args.table.now d.args.w d.args.c (memory_of d.args.bytes.now d.args.words.now d.args.numbers.now d.args.sums.now) (room (goal.at.returns-then-not-is_ready c).Else-not-room_for) (empty (goal.at.returns-then-not-is_ready c).Then-not-holds) c.if-c-ge16.false c.bottom_at-b.ensures c.is_ready.ensures c.if-not-is_ready.true))
+    (idles d.args.table.now d.args.w d.args.c (memory_of d.args.bytes.now d.args.words.now d.args.numbers.now d.args.sums.now) (room (goal.at.returns-then-not-is_ready-clause-turn_value c).Else-not-room_for) (empty (goal.at.returns-then-not-is_ready-clause-turn_value c).Then-not-holds) c.if-c-ge16.false c.bottom_at-b.ensures c.is_ready.ensures c.if-not-is_ready.true))
 
 pub action_fits-requires : goal.action_fits-requires
 action_fits-requires c =
     ready_read (bytes_in c.args.bytes.now).status c.bottom_at-b.result c.if-not-is_ready.false c.is_ready.ensures
 
-pub returns-then-not-action_fits : goal.returns-then-not-action_fits
-returns-then-not-action_fits c =
-    spoke c.refused-then-not-action_fits.ensures
-    (steal_unfit c.args.table.now c.args.w c.args.c (memory_of c.args.bytes.now c.args.words.now c.args.numbers.now c.args.sums.now) (room (goal.at.returns-then-not-action_fits c).Else-not-room_for) (empty (goal.at.returns-then-not-action_fits c).Then-not-holds) c.if-c-ge16.false c.bottom_at-b.ensures c.is_ready.ensures (is_there (goal.at.returns-then-not-action_fits c).After-action_fits) (fits_as (goal.at.returns-then-not-action_fits c).After-action_fits) c.if-not-action_fits.true)
+pub returns-then-not-action_fits-clause-turn_value : goal.returns-then-not-action_fits-clause-turn_value
+returns-then-not-action_fits-clause-turn_value c =
+    (steal_unfit c.args.table.now c.args.w c.args.c (memory_of c.args.bytes.now c.args.words.now c.args.numbers.now c.args.sums.now) (room (goal.at.returns-then-not-action_fits-clause-turn_value c).Else-not-room_for) (empty (goal.at.returns-then-not-action_fits-clause-turn_value c).Then-not-holds) c.if-c-ge16.false c.bottom_at-b.ensures c.is_ready.ensures (is_there (goal.at.returns-then-not-action_fits-clause-turn_value c).After-action_fits) (fits_as (goal.at.returns-then-not-action_fits-clause-turn_value c).After-action_fits) c.if-not-action_fits.true)
 
 pub steal-requires : goal.steal-requires
 steal-requires c =
@@ -106,6 +102,6 @@ seated m =
 pub go_on-requires : goal.go_on-requires
 go_on-requires c = (seated (goal.at.go_on-requires c).Joined-not-holds).0
 
-pub returns : goal.returns
-returns c =
-    c.go_on.ensures c.args.c ∙ (seated (goal.at.returns c).Joined-not-holds).1
+pub returns-clause-turn_value : goal.returns-clause-turn_value
+returns-clause-turn_value c =
+    c.go_on.ensures.turn_value c.args.c ∙ (seated (goal.at.returns-clause-turn_value c).Joined-not-holds).1

@@ -69,7 +69,7 @@ fit_with x M =
     (pick (x.free || (ltb M x.serial || ltb (most_with x M) x.least)) (short_with x) (fits_at x (most_with x M)))
 
 -- the answer where the table's own checks pass: 20, 41
-unfoldable pub own_answer : List ℕ → ℕ → ℕ → ℕ → Fitted
+unfoldable pub own_answer : List ℕ → ℕ → ℕ → ℕ → Result Fitted Refusal
 own_answer s p b M = fitted_as (try_pass (settings (workers_check p ∷ gap_check b ∷ []))) (own_fit (table_of s) p b M)
 
 -- ---- memlimit

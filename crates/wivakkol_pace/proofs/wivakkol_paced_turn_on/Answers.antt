@@ -1,14 +1,15 @@
 -- `wivakkol_pace::wivakkol_paced_turn_on` meets its contract: what the turn says is put into the row.
-use borrow.Author.Rules.{rules}
-use Rattle.run_memory.specs.Memory.{Memory}
+use mathlib.Core.Path.{refl}
 use Rattle.run_memory.specs.Blocks.{memory_of}
 use Rattle.wivakkol_pace.proofs.PacedTurns.{tells_refusal, tells}
 use Rattle.wivakkol_pace.proofs.wivakkol_paced_turn_on.Goals as goal
 
-pub returns-then-spoken-ne0 : goal.returns-then-spoken-ne0
-returns-then-spoken-ne0 c =
-    tells_refusal c.args.table.now c.args.w (memory_of c.args.bytes.now c.args.words.now c.args.numbers.now c.args.sums.now) c.args.pace.now c.paced_in-spoken.ensures.pace_after c.if-spoken-ne0.true
+pub returns-in-Ok : goal.returns-in-Ok
+returns-in-Ok c =
+    let a = c.args in
+    tells a.table.now a.w (memory_of a.bytes.now a.words.now a.numbers.now a.sums.now) a.pace.now c.in-Ok.ensures.pace_after refl c.in-Ok.ensures.passed_value c.put_reply.ensures
 
-pub returns : goal.returns
-returns c =
-    tells c.args.table.now c.args.w (memory_of c.args.bytes.now c.args.words.now c.args.numbers.now c.args.sums.now) c.args.pace.now c.paced_in-spoken.ensures.pace_after c.if-spoken-ne0.false c.paced_in-spoken.ensures.passed_value c.put_reply.ensures
+pub returns-in-Err : goal.returns-in-Err
+returns-in-Err c =
+    let a = c.args in
+    tells_refusal a.table.now a.w (memory_of a.bytes.now a.words.now a.numbers.now a.sums.now) a.pace.now c.in-Err.ensures.pace_after (c.in-Err.ensures.nonzero _ refl)

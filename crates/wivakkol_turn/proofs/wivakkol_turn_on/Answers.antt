@@ -1,5 +1,5 @@
 -- `wivakkol_turn::wivakkol_turn_on` meets its contract: what the turn says is put into the row.
-use mathlib.Core.Path.{◌≡◌, ap, ◌∙◌}
+use mathlib.Core.Path.{◌≡◌, refl, ap, ◌∙◌}
 use Prim.Native.Nat.{ℕ}
 use mathlib.Core.List.{List}
 use borrow.Author.Tests.{ne_eqb}
@@ -7,7 +7,6 @@ use lib.Dec.{eqb}
 use Rattle.table.specs.Sum.{pick}
 use Rattle.run_memory.specs.Memory.{Memory, no_row, reply_row, answer, Told, turn_in, passed_over, lent_turn}
 use Rattle.run_memory.specs.Blocks.{memory_of}
-use Rattle.wivakkol_turn.proofs.wivakkol_turn_on.Goals.{Start}
 use Rattle.wivakkol_turn.proofs.wivakkol_turn_on.Goals as goal
 
 module _ (s : List ℕ) (w : ℕ) (M : Memory) {y : Told} (e : y ≡ turn_in s w M) where
@@ -21,13 +20,12 @@ module _ (s : List ℕ) (w : ℕ) (M : Memory) {y : Told} (e : y ≡ turn_in s w
       let here : p ≡ passed_over M w = rw d at q in
       ap (λ (x : List ℕ). answer 0 x y.memory) (r ∙ ap (reply_row y.reply) here) ∙ rw (← e, d)
 
-abbrev start : Start → Memory
-start d = memory_of d.args.bytes.now d.args.words.now d.args.numbers.now d.args.sums.now
+pub returns-in-Ok : goal.returns-in-Ok
+returns-in-Ok c =
+    let a = c.args in
+    tells a.table.now a.w (memory_of a.bytes.now a.words.now a.numbers.now a.sums.now) c.in-Ok.ensures.sums_after refl c.in-Ok.ensures.passed_value c.put_reply.ensures
 
-pub returns-then-spoken-ne0 : goal.returns-then-spoken-ne0
-returns-then-spoken-ne0 c =
-    refuses c.args.table.now c.args.w (start (goal.at.returns-then-spoken-ne0 c).Start) c.turn_in-spoken.ensures.sums_after c.if-spoken-ne0.true
-
-pub returns : goal.returns
-returns c =
-    tells c.args.table.now c.args.w (start (goal.at.returns c).Start) c.turn_in-spoken.ensures.sums_after c.if-spoken-ne0.false c.turn_in-spoken.ensures.passed_value c.put_reply.ensures
+pub returns-in-Err : goal.returns-in-Err
+returns-in-Err c =
+    let a = c.args in
+    refuses a.table.now a.w (memory_of a.bytes.now a.words.now a.numbers.now a.sums.now) c.in-Err.ensures.sums_after (c.in-Err.ensures.nonzero _ refl)

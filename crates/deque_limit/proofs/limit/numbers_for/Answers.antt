@@ -6,7 +6,7 @@ use borrow.Author.Rules.{rules}
 use Rattle.deque_limit.proofs.limit.numbers_for.Goals as goal
 
 pub numbers-requires : goal.numbers-requires
-numbers-requires c = (accepted_own _ _ (sym c.load_in-loaded.ensures.value ∙ c.in-Ok.is), c.requires.1)
+numbers-requires c = (accepted_own _ _ (sym c.load_in.ensures.value ∙ c.in_ok-facts.was), c.requires.1)
 
-pub returns-in-Err : goal.returns-in-Err
-returns-in-Err c = not_refused _ c.requires.0 (sym c.load_in-loaded.ensures.value ∙ c.in-Err.is)
+pub returns-in_err-facts : goal.returns-in_err-facts
+returns-in_err-facts c = not_refused _ c.requires.0 (sym c.load_in.ensures.value ∙ c.in_err-facts.was)

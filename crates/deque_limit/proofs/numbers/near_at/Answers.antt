@@ -10,4 +10,4 @@ pub ruled-requires : goal.ruled-requires
 ruled-requires c = small c.requires.0 c.requires.2
 
 pub returns : goal.returns
-returns c = near_least c.requires.0 _ c.peak_at-peak.ensures c.least_quota.ensures c.if-quota-least_quota.false c.ruled.ensures c.lower.ensures
+returns c = near_least c.requires.0 _ c.peak_at-peak.ensures c.least_quota.ensures c.if-quota-least_quota.false c.ruled.ensures c.min.ensures

@@ -24,15 +24,8 @@ offset_bounds-row-i c = omega (arith, c.loop-i-test.true, c.loop-i.invariant.thr
 pub bounds-row-i : goal.bounds-row-i
 bounds-row-i c = omega (arith, c.loop-i-test.true, c.loop-i.invariant.threads.fits)
 
-pub overflow_add-i : goal.overflow_add-i
-overflow_add-i c =
-    omega (arith, c.loop-i-test.true, c.loop-i.invariant.threads.fits)
-
 pub is_bottom-requires : goal.is_bottom-requires
 is_bottom-requires c = low (goal.at.is_bottom-requires c).In-loop-i
-
-pub loop-i-smaller-then-not-is_bottom : goal.loop-i-smaller-then-not-is_bottom
-loop-i-smaller-then-not-is_bottom c = omega (arith, c.loop-i-test.true)
 
 pub loop-i-preserved-then-not-is_bottom : goal.loop-i-preserved-then-not-is_bottom
 loop-i-preserved-then-not-is_bottom c =
@@ -46,9 +39,6 @@ bounds-bottoms-count c = room (goal.at.bounds-bottoms-count c).In-loop-i
 
 pub overflow_add-count : goal.overflow_add-count
 overflow_add-count c = omega (arith, room (goal.at.overflow_add-count c).In-loop-i)
-
-pub loop-i-smaller : goal.loop-i-smaller
-loop-i-smaller c = omega (arith, c.loop-i-test.true)
 
 pub loop-i-preserved : goal.loop-i-preserved
 loop-i-preserved c =

@@ -73,18 +73,12 @@ module _ {s : List ℕ} {n m : ℕ} {depths : List ℕ} {t : ℕ} (v : Inv s n m
 pub loop-t-init : goal.loop-t-init
 loop-t-init c = start c.requires
 
-pub overflow_sub-t : goal.overflow_sub-t
-overflow_sub-t c = omega arith
-
 pub depth_walk-last-requires : goal.depth_walk-last-requires
 depth_walk-last-requires c = (c.loop-t.invariant.sized, c.count.ensures.small)
 
 pub put_depth-requires : goal.put_depth-requires
 put_depth-requires c =
     middle c.loop-t.invariant c.body_of-body.result.now c.count.result _ _ c.depth_walk-last.ensures
-
-pub loop-t-smaller : goal.loop-t-smaller
-loop-t-smaller c = omega arith
 
 pub loop-t-preserved : goal.loop-t-preserved
 loop-t-preserved c =

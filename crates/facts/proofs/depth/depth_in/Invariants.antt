@@ -16,6 +16,3 @@ pub record Inv (s : List ℕ) (n m : ℕ) (depths : List ℕ) (t : ℕ) : Type 0
 
 abbrev pub invariant-loop-t : goal.invariant-loop-t
 invariant-loop-t l = Inv l.table l.n l.m l.depths l.t
-
-abbrev pub decreases-loop-t : goal.decreases-loop-t
-decreases-loop-t l = l.t

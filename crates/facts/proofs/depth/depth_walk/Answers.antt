@@ -4,6 +4,7 @@ use mathlib.Core.List.{List}
 use native.Mathlib.Omega.{arith}
 use native.Mathlib.Numerals.{add-one}
 use lib.ListN.{length}
+use Rattle.table.specs.declared.kinds.Kind.{Kind}
 use Rattle.table.specs.Format.{kind_of, code_at, argument_at}
 use Rattle.facts.specs.Code.DepthWalk.{Reached, reached, step_depth, body_depth, cut16, Stepped}
 use Rattle.facts.proofs.DepthWalk.{step_length}
@@ -17,14 +18,14 @@ module _ (l : List ℕ) (count : ℕ) (depths₀ : List ℕ) where
       record { within = omega arith; few = c; sized = s; low = omega arith; same = rw q }
 
   module _ (depths : List ℕ) (last i : ℕ) (v : Inv l count depths₀ depths last i) where
-    again : (h : i < count) (k x : ℕ) → k ≡ code_at l i → x ≡ argument_at l i → (depths' : List ℕ) (last' : ℕ) → Stepped (kind_of k) x (reached depths last) (reached depths' last')
+    again : (h : i < count) (k : Kind) (x : ℕ) → k ≡ kind_of (code_at l i) → x ≡ argument_at l i → (depths' : List ℕ) (last' : ℕ) → Stepped k x (reached depths last) (reached depths' last')
         → Inv l count depths₀ depths' last' (i + 1)
     unfolding body_depth
     again h k x e f depths' last' s =
         record {
           within = omega arith;
           few = v.few;
-          sized = ap (λ (w : Reached). length w.depths) s.value ∙ step_length cut16 (kind_of k) x (reached depths last) ∙ v.sized;
+          sized = ap (λ (w : Reached). length w.depths) s.value ∙ step_length cut16 k x (reached depths last) ∙ v.sized;
           low = omega (arith, v.low, s.small);
           same = next;
         }
@@ -53,7 +54,7 @@ pub loop-i-preserved : goal.loop-i-preserved
 loop-i-preserved c =
     let d = c.args in
     again d.body.now d.count d.depths.now c.loop-i.depths c.loop-i.last c.loop-i.i c.loop-i.invariant c.loop-i-test.true
-    c.action_in-action.result.code c.action_in-action.result.argument c.action_in-action.ensures.code_value c.action_in-action.ensures.read.value _ _ c.depth_step-last.ensures
+    c.kind.result c.action_in-action.result.argument (c.kind.ensures ∙ ap kind_of c.action_in-action.ensures.code_value) c.action_in-action.ensures.read.value _ _ c.depth_step-last.ensures
 
 pub returns : goal.returns
 returns c =

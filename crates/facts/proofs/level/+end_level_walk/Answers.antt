@@ -1,11 +1,11 @@
-use mathlib.Core.Path.{◌≡◌, sym, ◌∙◌}
+use mathlib.Core.Path.{◌≡◌, sym, ap, ◌∙◌}
 use Prim.Native.Nat.{ℕ, suc, ◌+◌, ◌-◌, ◌*◌, ◌≤◌, ◌<◌}
 use mathlib.Core.List.{List}
 use mathlib.Core.Bool.{false}
 use native.Mathlib.Omega.{arith}
-use borrow.Author.Tests.{ne_eqb}
 use lib.ListN.{get_or, set, drop}
 use Rattle.table.specs.Format.{kind_of, is, kind, code_at, argument_at, bodies_from, body_of, table_of}
+use Rattle.table.specs.declared.kinds.Kind.{Kind}
 use Rattle.table.specs.declared.kinds.Kind.TheVariants.{Fork as fork, Join as join}
 use Rattle.table.specs.Level.{level}
 use Rattle.table.specs.Code.Steps.{Nested}
@@ -17,8 +17,9 @@ use Rattle.table.proofs.Amounts.{action_within}
 use Rattle.table.proofs.Levels.{level_bound, level_child}
 use Rattle.facts.proofs.EndLevels.{by_rules, in_threads, few_threads, few_actions, level_pos, Walking, walking_first, walking_last, walking_level, walking_room, walking_joined, walking_falls, walking_step, walking_fork}
 use Rattle.table.proofs.Parts.{body_from, body_kind, body_argument}
-use Rattle.table.proofs.Walks.{is_code}
+use Rattle.table.proofs.Tests.{other_is}
 use Rattle.facts.proofs.level.+end_level_walk.Invariants.{Inv}
+use Rattle.facts.proofs.level.+end_level_walk.Goals.{walk-in-Fork, walk-in_default}
 use Rattle.facts.proofs.level.+end_level_walk.Goals as goal
 
 -- below a measure
@@ -58,17 +59,17 @@ finish {s} {t = t} {i = i} v h =
     by_rules v.nested walking_last _ (in_threads v.nested v.thread) _ _ _ (rw e at v.walking)
 
 -- a turn of a walk
-record Turn (s : List ℕ) (n m t : ℕ) (body : List ℕ) (count : ℕ) (ends₀ ends : List ℕ) (last i k x : ℕ) : Type 0 where
+record Turn (s : List ℕ) (n m t : ℕ) (body : List ℕ) (count : ℕ) (ends₀ ends : List ℕ) (last i : ℕ) (k : Kind) (x : ℕ) : Type 0 where
   inv : Inv s n m t body count ends₀ ends last i
   taken : i < count
-  code : k ≡ code_at body i
+  code : k ≡ kind_of (code_at body i)
   argument : x ≡ argument_at body i
 
-turn : {s : List ℕ} {n m t : ℕ} {body : List ℕ} {count : ℕ} {ends₀ ends : List ℕ} {last i k x : ℕ} → Inv s n m t body count ends₀ ends last i → i < count
-    → k ≡ code_at body i → x ≡ argument_at body i → Turn s n m t body count ends₀ ends last i k x
+turn : {s : List ℕ} {n m t : ℕ} {body : List ℕ} {count : ℕ} {ends₀ ends : List ℕ} {last i : ℕ} {k : Kind} {x : ℕ} → Inv s n m t body count ends₀ ends last i → i < count
+    → k ≡ kind_of (code_at body i) → x ≡ argument_at body i → Turn s n m t body count ends₀ ends last i k x
 turn v h p q = record { inv = v; taken = h; code = p; argument = q }
 
-module _ {s : List ℕ} {n m t : ℕ} {body : List ℕ} {count : ℕ} {ends₀ ends : List ℕ} {last i k x : ℕ} (c : Turn s n m t body count ends₀ ends last i k x) where
+module _ {s : List ℕ} {n m t : ℕ} {body : List ℕ} {count : ℕ} {ends₀ ends : List ℕ} {last i : ℕ} {k : Kind} {x : ℕ} (c : Turn s n m t body count ends₀ ends last i k x) where
   v : Inv s n m t body count ends₀ ends last i
   v = c.inv
 
@@ -82,25 +83,22 @@ module _ {s : List ℕ} {n m t : ℕ} {body : List ℕ} {count : ℕ} {ends₀ e
   action_in_lem : (table_of s).first t + i < (table_of s).actions
   action_in_lem = action_within (table_of s) v.nested.formed.laid.contents v.nested.formed.bodies t i thread_in_lem count_in_lem
 
-  kind_is : kind_of k ≡ kind (table_of s) ((table_of s).first t + i)
+  kind_is : k ≡ kind (table_of s) ((table_of s).first t + i)
   kind_is = rw (c.code, v.body_is, body_kind s t i)
 
   argument_is : x ≡ (table_of s).argument ((table_of s).first t + i)
   argument_is = rw (c.argument, v.body_is, body_argument s t i)
 
-  join_is : k ≡ 5 → kind (table_of s) ((table_of s).first t + i) ≡ join
-  unfolding kind_of
-  join_is e = sym kind_is ∙ rw e
+  join_is : k ≡ join → kind (table_of s) ((table_of s).first t + i) ≡ join
+  join_is e = sym kind_is ∙ e
 
-  fork_is : k ≡ 4 → kind (table_of s) ((table_of s).first t + i) ≡ fork
-  unfolding kind_of
-  fork_is e = sym kind_is ∙ rw e
+  fork_is : k ≡ fork → kind (table_of s) ((table_of s).first t + i) ≡ fork
+  fork_is e = sym kind_is ∙ e
 
-  fork_no : (k ≡ 4 → ⊥) → is fork (kind (table_of s) ((table_of s).first t + i)) ≡ false
-  unfolding kind_of
-  fork_no d = rw (← kind_is, is_code 4 k (omega arith), ne_eqb k 4 d)
+  fork_no : (k ≡ fork → ⊥) → is fork (kind (table_of s) ((table_of s).first t + i)) ≡ false
+  fork_no d = rw (← kind_is, other_is fork k d)
 
-  ready : (last < 8192) × (k ≡ 5 → (x < 1024) × (get_or ends x 0 ≤ 8192))
+  ready : (last < 8192) × (k ≡ join → (x < 1024) × (get_or ends x 0 ≤ 8192))
   ready =
       let w : Nested s n m = v.nested in
       let below = join_below (table_of s) w.formed.laid.contents w.formed.bodies ((table_of s).first t + i) action_in_lem in (
@@ -109,7 +107,7 @@ module _ {s : List ℕ} {n m t : ℕ} {body : List ℕ} {count : ℕ} {ends₀ e
             (omega (arith, few_threads w, below (join_is e)), by_rules w walking_joined _ thread_in_lem _ _ _ _ v.walking count_in_lem (few_actions w) (join_is e)),
       )
 
-  module _ {r : ℕ} (er : r ≡ next_level (kind_of k) x last ends) where
+  module _ {r : ℕ} (er : r ≡ next_level k x last ends) where
     level_is : r ≡ level (table_of s) ((table_of s).first t + i)
     level_is = er ∙ rw (kind_is, argument_is) (by_rules v.nested walking_level _ thread_in_lem _ _ _ _ v.walking count_in_lem)
 
@@ -117,7 +115,7 @@ module _ {s : List ℕ} {n m t : ℕ} {body : List ℕ} {count : ℕ} {ends₀ e
     small = omega (arith, level_is, few_actions v.nested, by_rules v.nested level_bound ((table_of s).first t + i) action_in_lem)
 
     -- what a call for the child asks
-    child : k ≡ 4 → (suc (rest (table_of s) ((table_of s).first x)) < rest (table_of s) ((table_of s).first t)) × Starts s n m x (r + 1)
+    child : k ≡ fork → (suc (rest (table_of s) ((table_of s).first x)) < rest (table_of s) ((table_of s).first t)) × Starts s n m x (r + 1)
     unfolding table_of
     child e =
         let w : Nested s n m = v.nested in
@@ -142,13 +140,13 @@ module _ {s : List ℕ} {n m t : ℕ} {body : List ℕ} {count : ℕ} {ends₀ e
           walking = q;
         }
 
-    forked : k ≡ 4 → {end : ℕ} {ends' : List ℕ} → Walked (table_of s) x ends end ends' → Inv s n m t body count ends₀ (set ends' x end) r (i + 1)
+    forked : k ≡ fork → {end : ℕ} {ends' : List ℕ} → Walked (table_of s) x ends end ends' → Inv s n m t body count ends₀ (set ends' x end) r (i + 1)
     forked e {end} {ends'} q =
         let w : Nested s n m = v.nested in
         next (set ends' x end)
         (rw argument_is (by_rules w walking_fork _ thread_in_lem _ _ _ _ v.walking count_in_lem (few_threads w) (fork_is e) _ level_is _ _ (rw argument_is at q)))
 
-    passed : (k ≡ 4 → ⊥) → Inv s n m t body count ends₀ ends r (i + 1)
+    passed : (k ≡ fork → ⊥) → Inv s n m t body count ends₀ ends r (i + 1)
     passed d = next ends (by_rules v.nested walking_step _ thread_in_lem _ _ _ _ v.walking count_in_lem (fork_no d) _ level_is)
 
 pub end_level-walk-requires : goal.end_level-walk-requires
@@ -163,27 +161,29 @@ pub walk-loop-i-init : goal.walk-loop-i-init
 walk-loop-i-init t c = begin c.requires.starts c.requires.body_value c.requires.end_levels
 
 pub walk-next_level-last-requires : goal.walk-next_level-last-requires
-walk-next_level-last-requires t c = ready (turn c.loop-i.invariant c.loop-i-test.true c.code_in-k.ensures c.argument_in-x.ensures.value)
+walk-next_level-last-requires t c = ready (turn c.loop-i.invariant c.loop-i-test.true (c.kind-kind.ensures ∙ ap kind_of c.action_in-action.ensures.code_value) c.action_in-action.ensures.read.value)
 
 pub walk-overflow_add-last : goal.walk-overflow_add-last
-walk-overflow_add-last t c = omega (arith, small (turn c.loop-i.invariant c.loop-i-test.true c.code_in-k.ensures c.argument_in-x.ensures.value) c.next_level-last.ensures)
+walk-overflow_add-last t c = omega (arith, small (turn c.loop-i.invariant c.loop-i-test.true (c.kind-kind.ensures ∙ ap kind_of c.action_in-action.ensures.code_value) c.action_in-action.ensures.read.value) c.next_level-last.ensures)
 
 pub walk-end_level-end-requires : goal.walk-end_level-end-requires
 walk-end_level-end-requires t c =
-    let w = turn c.loop-i.invariant c.loop-i-test.true c.code_in-k.ensures c.argument_in-x.ensures.value in
-    let q = child w c.next_level-last.ensures c.if-k-eq-FORK.true in
+    let w = turn c.loop-i.invariant c.loop-i-test.true (c.kind-kind.ensures ∙ ap kind_of c.action_in-action.ensures.code_value) c.action_in-action.ensures.read.value in
+    let q = child w c.next_level-last.ensures c.in-Fork.is in
     (less _ _ _ c.decreases q.0, (q.1, w.inv.walking.known))
 
 pub walk-bounds-ends-x : goal.walk-bounds-ends-x
 walk-bounds-ends-x t c =
-    let w = turn c.loop-i.invariant c.loop-i-test.true c.code_in-k.ensures c.argument_in-x.ensures.value in
-    omega (arith, w.inv.sizes, child w c.next_level-last.ensures c.if-k-eq-FORK.true)
-
-pub walk-loop-i-preserved-then-k-eq-FORK : goal.walk-loop-i-preserved-then-k-eq-FORK
-walk-loop-i-preserved-then-k-eq-FORK t c = forked (turn c.loop-i.invariant c.loop-i-test.true c.code_in-k.ensures c.argument_in-x.ensures.value) c.next_level-last.ensures c.if-k-eq-FORK.true c.end_level-end.ensures
+    let w = turn c.loop-i.invariant c.loop-i-test.true (c.kind-kind.ensures ∙ ap kind_of c.action_in-action.ensures.code_value) c.action_in-action.ensures.read.value in
+    omega (arith, w.inv.sizes, child w c.next_level-last.ensures c.in-Fork.is)
 
 pub walk-loop-i-preserved : goal.walk-loop-i-preserved
-walk-loop-i-preserved t c = passed (turn c.loop-i.invariant c.loop-i-test.true c.code_in-k.ensures c.argument_in-x.ensures.value) c.next_level-last.ensures c.if-k-eq-FORK.false
+walk-loop-i-preserved t c =
+    let v = turn c.loop-i.invariant c.loop-i-test.true (c.kind-kind.ensures ∙ ap kind_of c.action_in-action.ensures.code_value) c.action_in-action.ensures.read.value in
+    elim c.match-kind.branch [
+      | walk-in-Fork w ↦ rw w.ends-is (forked v c.next_level-last.ensures w.in-Fork.is w.end_level-end.ensures)
+      | walk-in_default w ↦ rw w.ends-is (passed v c.next_level-last.ensures w.in_default.not-Fork)
+    ]
 
 pub walk-returns : goal.walk-returns
 walk-returns t c = finish c.loop-i.invariant c.loop-i-test.false

@@ -1,6 +1,6 @@
 -- The cycle {`facts::level::end_level`, `facts::level::walk`} meets its contracts. Each one's measure is the count of actions left in the thread and its children, and one more
 -- for `end_level`: it falls at a fork. What a turn of the walk finds is in proofs/EndLevels.
-use Rattle.std.proofs.Common.{◌≡◌, ℕ, suc, ◌-◌, ◌≤◌, ◌<◌, List}
+use Rattle.std.proofs.Common.{◌≡◌, ℕ, suc, ◌≤◌, ◌<◌, List}
 use Rattle.table.specs.Format.{body_of, table_of}
 use Rattle.table.specs.Code.Steps.{Nested}
 use Rattle.table.proofs.Sizes.{Sizes}
@@ -25,6 +25,3 @@ decreases-walk l = rest (table_of l.table.now) ((table_of l.table.now).first l.t
 
 abbrev pub invariant-walk-loop-i : goal.invariant-walk-loop-i
 invariant-walk-loop-i l = Inv l.table l.n l.m l.t l.body l.count l.fn.ends l.ends l.last l.i
-
-abbrev pub decreases-walk-loop-i : goal.decreases-walk-loop-i
-decreases-walk-loop-i l = l.count - l.i

@@ -1,4 +1,4 @@
-use mathlib.Core.Path.{◌≡◌, refl, sym, ◌∙◌}
+use mathlib.Core.Path.{◌≡◌, refl, sym, ap, ◌∙◌}
 use Prim.Native.Nat.{ℕ, suc, ◌+◌, ◌≤◌, ◌<◌, max}
 use mathlib.Core.List.{List}
 use native.Mathlib.Numerals.{add-one}
@@ -7,6 +7,7 @@ use native.Mathlib.Nat.{min-eq_left}
 use lib.ListN.{get_or, set, replicate}
 use Rattle.table.specs.Sum.{pick}
 use Rattle.table.specs.Format.{is, kind_of, Table, table_of, kind, code_at, argument_at, bodies_of, bodies_from}
+use Rattle.table.specs.declared.kinds.Kind.{Kind}
 use Rattle.table.specs.declared.kinds.Kind.TheVariants.{End as end, Fork as fork}
 use Rattle.table.specs.Rules.{ContentRules, BodyRules, NestRules, ForkRules}
 use Rattle.table.specs.Nested.{N}
@@ -67,8 +68,8 @@ module _ {s actions : List ℕ} {n m : ℕ} {levels : List ℕ} {deepest t a : �
           few_threads i.nested,
         )
 
-    module _ {k x : ℕ} (e : k ≡ code_at actions a) (d : x ≡ argument_at actions a) where
-      kind_is : kind_of k ≡ kind T a
+    module _ {k : Kind} {x : ℕ} (e : k ≡ kind_of (code_at actions a)) (d : x ≡ argument_at actions a) where
+      kind_is : k ≡ kind T a
       unfolding table_of
       kind_is = rw (e, i.part)
 
@@ -76,14 +77,13 @@ module _ {s actions : List ℕ} {n m : ℕ} {levels : List ℕ} {deepest t a : �
       unfolding table_of
       argument_is = rw (d, i.part)
 
-      child_below : k ≡ 4 → x < 1024
-      unfolding kind_of
+      child_below : k ≡ fork → x < 1024
       child_below q =
-          let j : kind T a ≡ fork = sym kind_is ∙ rw q in
+          let j : kind T a ≡ fork = sym kind_is ∙ q in
           rw argument_is (omega (arith, fork_below_lem T laws.0 laws.1 a inside j, few_threads i.nested))
 
-      again : {deepest' t' : ℕ} {levels' : List ℕ} → deepest' ≡ pick (is fork (kind_of k)) (max deepest (suc (get_or levels t 0))) deepest
-          → levels' ≡ pick (is fork (kind_of k)) (set levels x (suc (get_or levels t 0))) levels → t' ≡ pick (is end (kind_of k)) (suc t) t
+      again : {deepest' t' : ℕ} {levels' : List ℕ} → deepest' ≡ pick (is fork k) (max deepest (suc (get_or levels t 0))) deepest
+          → levels' ≡ pick (is fork k) (set levels x (suc (get_or levels t 0))) levels → t' ≡ pick (is end k) (suc t) t
           → Inv s actions n m levels' deepest' t' (a + 1)
       again p q r =
           record {
@@ -102,7 +102,7 @@ module _ {s actions : List ℕ} {n m : ℕ} {levels : List ℕ} {deepest t a : �
 pub loop-a-init : goal.loop-a-init
 loop-a-init c =
     let i = start c.requires c.bodies-actions.ensures in
-    (i, c.lesser-stop.ensures ∙ min-eq_left (omega (arith, rw (← i.part) at (bodies_length i.nested.formed.laid.headed))))
+    (i, c.min-stop.ensures ∙ min-eq_left (omega (arith, rw (← i.part) at (bodies_length i.nested.formed.laid.headed))))
 
 pub offset_bounds-levels-t : goal.offset_bounds-levels-t
 offset_bounds-levels-t c = omega (arith, thread_below c.loop-a.invariant.0 (omega (arith, c.loop-a.invariant.1, c.loop-a-test.true)))
@@ -118,7 +118,7 @@ pub fork_level-deepest-requires : goal.fork_level-deepest-requires
 fork_level-deepest-requires c =
     let v = c.loop-a.invariant in (
       level_small v.0 (omega (arith, v.1, c.loop-a-test.true)),
-      child_below v.0 (omega (arith, v.1, c.loop-a-test.true)) c.action_in-action.ensures.code_value c.action_in-action.ensures.read.value,
+      child_below v.0 (omega (arith, v.1, c.loop-a-test.true)) (c.kind-kind.ensures ∙ ap kind_of c.action_in-action.ensures.code_value) c.action_in-action.ensures.read.value,
     )
 
 pub next_thread-t-requires : goal.next_thread-t-requires
@@ -128,7 +128,7 @@ next_thread-t-requires c =
 pub loop-a-preserved : goal.loop-a-preserved
 loop-a-preserved c =
     let v = c.loop-a.invariant in (
-      again v.0 (omega (arith, v.1, c.loop-a-test.true)) c.action_in-action.ensures.code_value c.action_in-action.ensures.read.value
+      again v.0 (omega (arith, v.1, c.loop-a-test.true)) (c.kind-kind.ensures ∙ ap kind_of c.action_in-action.ensures.code_value) c.action_in-action.ensures.read.value
           c.fork_level-deepest.ensures.value c.fork_level-deepest.ensures.levels_after c.next_thread-t.ensures,
       v.1,
     )

@@ -1,7 +1,7 @@
 -- `facts::nested::nested_levels` meets its contract. The invariant: t is the thread of action a, `levels` has the nesting of the root and of every thread forked before a, and `deepest` is
 -- the greatest of these.
 use mathlib.Core.Path.{◌≡◌}
-use Prim.Native.Nat.{ℕ, ◌-◌, ◌≤◌}
+use Prim.Native.Nat.{ℕ, ◌≤◌}
 use mathlib.Core.List.{List}
 use Rattle.table.specs.Format.{table_of, bodies_of}
 use Rattle.table.specs.Code.Steps.{Nested}

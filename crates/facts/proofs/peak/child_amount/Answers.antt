@@ -1,21 +1,17 @@
--- `facts::peak::child_amount` meets its contract: a code below 6 is told by its kind.
+-- `facts::peak::child_amount` meets its contract.
 use native.Mathlib.Omega.{arith}
-use borrow.Author.Tests.{eq-eqb, ne_eqb}
-use Rattle.table.specs.Format.{kind_of}
-use Rattle.table.proofs.Walks.{is_code}
+use Rattle.table.specs.declared.kinds.Kind.TheVariants.{Fork as fork}
+use Rattle.table.proofs.Tests.{same_is, other_is}
 use Rattle.facts.proofs.peak.child_amount.Goals as goal
 
 pub offset_bounds-amounts-x : goal.offset_bounds-amounts-x
-offset_bounds-amounts-x c = omega (arith, c.requires c.if-k-eq-FORK.true)
+offset_bounds-amounts-x c = omega (arith, c.requires c.in-Fork.is)
 
 pub bounds-amounts-x : goal.bounds-amounts-x
-bounds-amounts-x c = c.requires c.if-k-eq-FORK.true
+bounds-amounts-x c = c.requires c.in-Fork.is
 
-pub returns-then-k-eq-FORK : goal.returns-then-k-eq-FORK
-unfolding kind_of
-returns-then-k-eq-FORK c =
-    rw (is_code 4 c.args.k (omega arith), eq-eqb c.args.k 4 c.if-k-eq-FORK.true)
+pub returns-in-Fork : goal.returns-in-Fork
+returns-in-Fork c = rw (same_is fork _ c.in-Fork.is)
 
-pub returns-else-k-eq-FORK : goal.returns-else-k-eq-FORK
-unfolding kind_of
-returns-else-k-eq-FORK c = rw (is_code 4 c.args.k (omega arith), ne_eqb c.args.k 4 c.if-k-eq-FORK.false)
+pub returns-in_default : goal.returns-in_default
+returns-in_default c = rw (other_is fork _ c.in_default.not-Fork)

@@ -1,6 +1,6 @@
 -- `facts::peak::peak_walk` meets its contract. The invariant: the sums and the highest are those of the actions before i; what a sum is after an action is part of the whole sum, which is small.
 use mathlib.Core.Path.{◌≡◌}
-use Prim.Native.Nat.{ℕ, ◌-◌, ◌≤◌}
+use Prim.Native.Nat.{ℕ, ◌≤◌}
 use mathlib.Core.List.{List}
 use Rattle.table.specs.Sum.{sum_to, greatest_to}
 use Rattle.table.specs.declared.kinds.Kind.TheVariants.{Alloc as alloc, Free as free, Fork as fork}

@@ -104,9 +104,6 @@ module _ {s : List ℕ} {n m : ℕ} {rises falls peaks : List ℕ} {t : ℕ} (v 
 pub loop-t-init : goal.loop-t-init
 loop-t-init c = start c.requires (λ i. omega (arith, c.type_inv.table i)) refl refl refl
 
-pub overflow_sub-t : goal.overflow_sub-t
-overflow_sub-t c = omega arith
-
 pub count-count-requires : goal.count-count-requires
 count-count-requires c = omega arith
 
@@ -130,9 +127,6 @@ offset_bounds-peaks-t c = omega arith
 
 pub bounds-peaks-t : goal.bounds-peaks-t
 bounds-peaks-t c = omega arith
-
-pub loop-t-smaller : goal.loop-t-smaller
-loop-t-smaller c = omega arith
 
 pub loop-t-preserved : goal.loop-t-preserved
 loop-t-preserved c =

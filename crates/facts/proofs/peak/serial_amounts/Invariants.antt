@@ -21,6 +21,3 @@ pub record Inv (s : List ℕ) (n m : ℕ) (rises falls peaks : List ℕ) (t : �
 
 abbrev pub invariant-loop-t : goal.invariant-loop-t
 invariant-loop-t l = Inv l.table l.n l.m l.rises l.falls l.peaks l.t
-
-abbrev pub decreases-loop-t : goal.decreases-loop-t
-decreases-loop-t l = l.t

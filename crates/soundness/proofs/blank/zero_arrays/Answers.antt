@@ -1,58 +1,62 @@
 -- `soundness::blank::zero_arrays` meets its contract: the tests are the clauses, in their order, and each array has 1,024 places.
-use mathlib.Core.Path.{◌≡◌, ap, ◌∙◌}
-use Prim.Native.Nat.{ℕ}
-use mathlib.Core.List.{List}
-use mathlib.Core.Bool.{Bool, not}
+use Rattle.std.specs.Prelude.{◌↔◌, IsTrue, EachIndex, slice_index}
+use mathlib.Core.Path.{◌≡◌, ap}
 use borrow.Author.Rules.{rules}
-use lib.ListN.{length, take, replicate}
-use Rattle.order.specs.Words.{filled, same_list}
+use mathlib.Core.Bool.{not}
+use lib.ListN.{replicate}
+use Rattle.order.specs.Words.{same_list}
 use Rattle.soundness.proofs.Chains.{off, on, cut, pass}
-use Rattle.soundness.proofs.Filled.{none_filled}
-use Rattle.soundness.proofs.blank.zero_arrays.Goals.{After-bytes_rest, After-zero_amounts, After-zero_numbers, After-zero_numbers-2}
+use Rattle.soundness.proofs.Filled.{zeros_same}
+use Rattle.soundness.proofs.blank.zero_arrays.Goals.{After-all, After-all-2, After-all-3, After-all-4, After-all-5}
 use Rattle.soundness.proofs.blank.zero_arrays.Goals as goal
 
-module _ (l : List ℕ) (z : length l ≡ 1024) where
-  sized : {b : Bool} → b ≡ same_list l (replicate (length l) 0) → b ≡ same_list l (replicate 1024 0)
-  sized e = e ∙ ap (λ (k : ℕ). same_list l (replicate k 0)) z
+next_zero : (c : After-all) → c.all.result ≡ same_list c.args.next.now (replicate 1024 0)
+next_zero c =
+    let e : IsTrue c.all.result ↔ EachIndex c.args.next.now (λ k. slice_index c.args.next.now k ≡ 0) = search rules in
+    zeros_same _ _ (search rules) e
 
-  sized_rest : {b : Bool} → b ≡ same_list l (filled (length l) (take 0 l)) → b ≡ same_list l (replicate 1024 0)
-  sized_rest e = sized (e ∙ ap (same_list l) (none_filled (length l) l))
+status_zero : (c : After-all-2) → c.all-2.result ≡ same_list c.args.status.now (replicate 1024 0)
+status_zero c =
+    let e : IsTrue c.all-2.result ↔ EachIndex c.args.status.now (λ k. slice_index c.args.status.now k ≡ 0) = search rules in
+    zeros_same _ _ (search rules) e
 
-next_zero : (c : After-zero_numbers) → c.zero_numbers.result ≡ same_list c.args.next.now (replicate 1024 0)
-next_zero c = sized c.args.next.now (search rules) c.zero_numbers.ensures
+amounts_zero : (c : After-all-3) → c.all-3.result ≡ same_list c.args.amounts.now (replicate 1024 0)
+amounts_zero c =
+    let e : IsTrue c.all-3.result ↔ EachIndex c.args.amounts.now (λ k. slice_index c.args.amounts.now k ≡ 0) = search rules in
+    zeros_same _ _ (search rules) e
 
-status_zero : (c : After-bytes_rest) → c.bytes_rest.result ≡ same_list c.args.status.now (replicate 1024 0)
-status_zero c = sized_rest c.args.status.now (search rules) c.bytes_rest.ensures
-
-amounts_zero : (c : After-zero_amounts) → c.zero_amounts.result ≡ same_list c.args.amounts.now (replicate 1024 0)
-amounts_zero c = sized c.args.amounts.now (search rules) c.zero_amounts.ensures
-
-left_zero : (c : After-zero_numbers-2)
-    → c.zero_numbers-2.result ≡ same_list c.args.left.now (replicate 1024 0)
+left_zero : (c : After-all-4) → c.all-4.result ≡ same_list c.args.left.now (replicate 1024 0)
 left_zero c =
-    sized c.args.left.now (search rules) c.zero_numbers-2.ensures
+    let e : IsTrue c.all-4.result ↔ EachIndex c.args.left.now (λ k. slice_index c.args.left.now k ≡ 0) = search rules in
+    zeros_same _ _ (search rules) e
 
-pub returns-then-not-zero_numbers : goal.returns-then-not-zero_numbers
-returns-then-not-zero_numbers c = cut _ (off (next_zero (goal.at.returns-then-not-zero_numbers c).After-zero_numbers) (ap not c.if-not-zero_numbers.true))
+right_zero : (c : After-all-5) → c.all-5.result ≡ same_list c.args.right.now (replicate 1024 0)
+right_zero c =
+    let e : IsTrue c.all-5.result ↔ EachIndex c.args.right.now (λ k. slice_index c.args.right.now k ≡ 0) = search rules in
+    zeros_same _ _ (search rules) e
 
-pub returns-then-not-bytes_rest : goal.returns-then-not-bytes_rest
-returns-then-not-bytes_rest c =
-    pass (on (next_zero (goal.at.returns-then-not-bytes_rest c).After-zero_numbers) (ap not c.if-not-zero_numbers.false)) (cut _ (off (status_zero (goal.at.returns-then-not-bytes_rest c).After-bytes_rest) (ap not c.if-not-bytes_rest.true)))
+pub returns-then-not-all : goal.returns-then-not-all
+returns-then-not-all c = cut _ (off (next_zero (goal.at.returns-then-not-all c).After-all) (ap not c.if-not-all.true))
 
-pub returns-then-not-zero_amounts : goal.returns-then-not-zero_amounts
-returns-then-not-zero_amounts c =
-    pass (on (next_zero (goal.at.returns-then-not-zero_amounts c).After-zero_numbers) (ap not c.if-not-zero_numbers.false)) (pass (on (status_zero (goal.at.returns-then-not-zero_amounts c).After-bytes_rest) (ap not c.if-not-bytes_rest.false)) (cut _ (off (amounts_zero (goal.at.returns-then-not-zero_amounts c).After-zero_amounts) (ap not c.if-not-zero_amounts.true))))
+pub returns-then-not-all-2 : goal.returns-then-not-all-2
+returns-then-not-all-2 c =
+    let at = goal.at.returns-then-not-all-2 c in
+    pass (on (next_zero at.After-all) (ap not c.if-not-all.false)) (cut _ (off (status_zero at.After-all-2) (ap not c.if-not-all-2.true)))
 
-pub returns-then-not-zero_numbers-2 : goal.returns-then-not-zero_numbers-2
-returns-then-not-zero_numbers-2 c =
-    pass (on (next_zero (goal.at.returns-then-not-zero_numbers-2 c).After-zero_numbers) (ap not c.if-not-zero_numbers.false))
-    (pass (on (status_zero (goal.at.returns-then-not-zero_numbers-2 c).After-bytes_rest) (ap not c.if-not-bytes_rest.false))
-    (pass (on (amounts_zero (goal.at.returns-then-not-zero_numbers-2 c).After-zero_amounts) (ap not c.if-not-zero_amounts.false)) (cut _ (off (left_zero (goal.at.returns-then-not-zero_numbers-2 c).After-zero_numbers-2) (ap not c.if-not-zero_numbers-2.true)))))
+pub returns-then-not-all-3 : goal.returns-then-not-all-3
+returns-then-not-all-3 c =
+    let at = goal.at.returns-then-not-all-3 c in
+    pass (on (next_zero at.After-all) (ap not c.if-not-all.false)) (pass (on (status_zero at.After-all-2) (ap not c.if-not-all-2.false))
+    (cut _ (off (amounts_zero at.After-all-3) (ap not c.if-not-all-3.true))))
+
+pub returns-then-not-all-4 : goal.returns-then-not-all-4
+returns-then-not-all-4 c =
+    let at = goal.at.returns-then-not-all-4 c in
+    pass (on (next_zero at.After-all) (ap not c.if-not-all.false)) (pass (on (status_zero at.After-all-2) (ap not c.if-not-all-2.false))
+    (pass (on (amounts_zero at.After-all-3) (ap not c.if-not-all-3.false)) (cut _ (off (left_zero at.After-all-4) (ap not c.if-not-all-4.true)))))
 
 pub returns : goal.returns
 returns c =
-    pass (on (next_zero (goal.at.returns c).After-zero_numbers) (ap not c.if-not-zero_numbers.false))
-    (pass (on (status_zero (goal.at.returns c).After-bytes_rest) (ap not c.if-not-bytes_rest.false))
-    (pass (on (amounts_zero (goal.at.returns c).After-zero_amounts) (ap not c.if-not-zero_amounts.false))
-    (pass (on (left_zero (goal.at.returns c).After-zero_numbers-2) (ap not c.if-not-zero_numbers-2.false))
-    (sized c.args.right.now (search rules) c.zero_numbers-3.ensures))))
+    let at = goal.at.returns c in
+    pass (on (next_zero at.After-all) (ap not c.if-not-all.false)) (pass (on (status_zero at.After-all-2) (ap not c.if-not-all-2.false))
+    (pass (on (amounts_zero at.After-all-3) (ap not c.if-not-all-3.false)) (pass (on (left_zero at.After-all-4) (ap not c.if-not-all-4.false)) (right_zero at.After-all-5))))

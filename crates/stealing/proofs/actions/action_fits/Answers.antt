@@ -2,7 +2,6 @@
 use mathlib.Core.Path.{sym, ◌∙◌}
 use Rattle.run_memory.specs.Blocks.{bytes_in, words_in, sums_in, gathered}
 use Rattle.stealing.proofs.Stealable.{work_fits, fork_fits, join_fits, alloc_fits, free_fits, other_fits}
-use borrow.Author.Rules.{rules}
 use Rattle.stealing.proofs.actions.action_fits.Goals as goal
 
 pub returns-then-action-eq-WORK : goal.returns-then-action-eq-WORK

@@ -9,7 +9,6 @@ use lib.Dec.{ltb, eqb}
 use Rattle.schedule.specs.Machine.{ended}
 use Rattle.array_machine.specs.Turn.{next_fits, amount_fits}
 use Rattle.run_memory.specs.Blocks.{bytes_in, sums_in}
-use borrow.Author.Rules.{rules}
 use Rattle.stealing.proofs.actions.join_goes.Goals as goal
 
 module _ (status amounts : List ℕ) (a x own : ℕ) where

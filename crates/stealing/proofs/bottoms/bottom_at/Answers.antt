@@ -1,7 +1,5 @@
-use Prim.Native.Nat.{◌-◌}
-use borrow.Author.Rules.{rules}
 use Rattle.run_memory.specs.Blocks.{words_in}
-use Rattle.stealing.proofs.Along.{Passed, passed_start, passed_on, passed_out, passed_over, passed_read}
+use Rattle.stealing.proofs.Along.{passed_start, passed_on, passed_out, passed_over, passed_read}
 use Rattle.stealing.proofs.bottoms.bottom_at.Goals as goal
 
 pub loop-i-init : goal.loop-i-init

@@ -1,8 +1,6 @@
 -- `stealing::bottoms::bottom_at` meets its contract. The invariant: the bottom at the place is the one as many places on from here as are left.
-use Prim.Native.Nat.{◌-◌}
-use borrow.Author.Rules.{rules}
 use Rattle.run_memory.specs.Blocks.{words_in}
-use Rattle.stealing.proofs.Along.{Passed, passed_start, passed_on, passed_out, passed_over, passed_read}
+use Rattle.stealing.proofs.Along.{Passed}
 use Rattle.stealing.proofs.bottoms.bottom_at.Given as goal
 
 abbrev pub invariant-loop-i : goal.invariant-loop-i

@@ -1,5 +1,4 @@
 -- `stealing::bottoms::is_bottom` meets its contract.
-use borrow.Author.Rules.{rules}
 use Rattle.stealing.proofs.Along.{bottom_left, bottom_first}
 use Rattle.stealing.proofs.bottoms.is_bottom.Goals as goal
 

@@ -1,12 +1,11 @@
 -- `stealing::moves::end` meets its contract.
-use mathlib.Core.Path.{◌≡◌, refl, ap, ◌∙◌}
+use mathlib.Core.Path.{ap, ◌∙◌}
 use Rattle.schedule.specs.Machine.{ended}
 use Rattle.array_machine.specs.Turn.{waits_in}
-use Rattle.run_memory.specs.Blocks.{Bytes, Words, bytes_in, words_in, numbers_in, gathered}
+use Rattle.run_memory.specs.Blocks.{Bytes, bytes_in, words_in, numbers_in, gathered}
 use Rattle.run_memory.specs.Places.{holds_in}
 use Rattle.stealing.specs.Code.{woken_up, left_behind}
 use Rattle.stealing.proofs.Leavings.{ends_woken, ends_left}
-use borrow.Author.Rules.{rules}
 use Rattle.stealing.proofs.moves.end.Goals as goal
 
 pub wake-requires : goal.wake-requires

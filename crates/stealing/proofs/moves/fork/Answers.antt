@@ -1,11 +1,10 @@
 -- `stealing::moves::fork` meets its contract.
-use mathlib.Core.Path.{◌≡◌, refl, ap, ◌∙◌}
+use mathlib.Core.Path.{refl, ap, ◌∙◌}
 use Rattle.schedule.specs.Machine.{held}
-use Rattle.run_memory.specs.Blocks.{Bytes, Words, bytes_in, words_in, numbers_in}
+use Rattle.run_memory.specs.Blocks.{Bytes, bytes_in, words_in, numbers_in}
 use Rattle.run_memory.specs.Places.{statused, holding, threaded}
 use Rattle.run_memory.specs.Code.Writes.{linked_left}
 use Rattle.stealing.proofs.Leavings.{gathered_as, forks}
-use borrow.Author.Rules.{rules}
 use Rattle.stealing.proofs.moves.fork.Goals as goal
 
 pub returns : goal.returns

@@ -1,7 +1,6 @@
 -- `stealing::moves::hold` meets its contract.
 use mathlib.Core.Path.{ap, ◌∙◌}
 use Rattle.run_memory.specs.Places.{holding}
-use borrow.Author.Rules.{rules}
 use Rattle.stealing.proofs.moves.hold.Goals as goal
 
 pub returns : goal.returns

@@ -4,7 +4,6 @@ use Prim.Native.Nat.{ℕ, ◌+◌, ◌*◌, ◌%◌, ◌^◌, ◌<◌}
 use mathlib.Core.Bool.{true, false}
 use Rattle.array_machine.specs.Counted.{busy_after}
 use Rattle.array_machine.proofs.Bits.{bit_is}
-use borrow.Author.Rules.{rules}
 use Rattle.stealing.proofs.moves.including.Goals as goal
 
 got : (busy : ℕ) {w : ℕ} → w < 16 → busy + (1 * 2 ^ w) % 65536 ≡ busy_after busy false true w

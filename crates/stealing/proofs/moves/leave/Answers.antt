@@ -1,5 +1,5 @@
 -- `stealing::moves::leave` meets its contract.
-use mathlib.Core.Path.{◌≡◌, refl, ap, ◌∙◌}
+use mathlib.Core.Path.{refl, ap, ◌∙◌}
 use Rattle.schedule.specs.Machine.{held}
 use Rattle.run_memory.specs.Blocks.{Bytes, Words, bytes_in, words_in, numbers_in}
 use mathlib.Core.Bool.{true, false}
@@ -7,7 +7,6 @@ use Rattle.array_machine.specs.Counted.{busy_after}
 use Rattle.run_memory.specs.Places.{statused, holding, threaded, headed}
 use Rattle.run_memory.specs.Code.Writes.{unlinked}
 use Rattle.stealing.proofs.Leavings.{gathered_as, leaves_last, leaves_pop}
-use borrow.Author.Rules.{rules}
 use Rattle.stealing.proofs.moves.leave.Goals as goal
 
 pub returns-then-last : goal.returns-then-last

@@ -5,7 +5,6 @@ use mathlib.Core.Bool.{true, false}
 use Rattle.array_machine.specs.Counted.{busy_after}
 use Rattle.run_memory.specs.Blocks.{words_in}
 use Rattle.run_memory.specs.Places.{threaded, headed}
-use borrow.Author.Rules.{rules}
 use Rattle.stealing.proofs.moves.let_go.Goals as goal
 
 pub returns : goal.returns

@@ -5,7 +5,6 @@ use lib.Dec.{ltb}
 use Rattle.table.specs.Sum.{pick}
 use Rattle.run_memory.specs.Blocks.{Words}
 use Rattle.run_memory.specs.Code.Writes.{unlinked}
-use borrow.Author.Rules.{rules}
 use Rattle.stealing.proofs.moves.replace.Goals as goal
 
 -- both write, or neither

@@ -7,7 +7,6 @@ use Rattle.run_memory.specs.Blocks.{bytes_in, words_in, numbers_in}
 use Rattle.run_memory.specs.Places.{threaded, headed, quotaed}
 use Rattle.stealing.specs.StealingMemory.{robbed_words}
 use Rattle.stealing.proofs.Leavings.{gathered_as, stolen}
-use borrow.Author.Rules.{rules}
 use Rattle.stealing.proofs.moves.steal.Goals as goal
 
 pub returns : goal.returns

@@ -1,11 +1,10 @@
 -- `stealing::moves::wake` meets its contract.
-use mathlib.Core.Path.{◌≡◌, refl, ap, ◌∙◌}
+use mathlib.Core.Path.{refl, ap, ◌∙◌}
 use Rattle.schedule.specs.Machine.{held}
 use Rattle.run_memory.specs.Blocks.{Bytes, Words, bytes_in, words_in, numbers_in}
 use Rattle.run_memory.specs.Places.{statused, holding}
 use Rattle.run_memory.specs.Code.Writes.{linked_left, unlinked}
 use Rattle.stealing.proofs.Leavings.{gathered_as, wakes_last, wakes_above}
-use borrow.Author.Rules.{rules}
 use Rattle.stealing.proofs.moves.wake.Goals as goal
 
 pub returns-then-last : goal.returns-then-last

@@ -6,4 +6,4 @@ use borrow.Author.Rules.{rules}
 use Rattle.useful_limit.proofs.fit.need.Goals as goal
 
 pub returns : goal.returns
-returns c = need_is _ _ c.lower-2.ensures (c.lower.ensures ∙ ap (min _) c.rested_need.ensures) c.ruled_need.ensures
+returns c = need_is _ _ c.min-2.ensures (c.min.ensures ∙ ap (min _) c.rested_need.ensures) c.ruled_need.ensures

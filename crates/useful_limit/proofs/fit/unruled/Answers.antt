@@ -4,4 +4,4 @@ use borrow.Author.Rules.{rules}
 use Rattle.useful_limit.proofs.fit.unruled.Goals as goal
 
 pub returns : goal.returns
-returns c = unruled_is _ c.lower.ensures c.rested_need.ensures
+returns c = unruled_is _ c.min.ensures c.rested_need.ensures

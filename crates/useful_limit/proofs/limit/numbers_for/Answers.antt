@@ -10,11 +10,11 @@ use Rattle.useful_limit.proofs.limit.numbers_for.Goals as goal
 pub numbers-requires : goal.numbers-requires
 numbers-requires c =
     let q = c.requires.1 in
-    let a = accepted_own _ _ (sym c.load_in-loaded.ensures.value ∙ c.in-Ok.is) in
+    let a = accepted_own _ _ (sym c.load_in.ensures.value ∙ c.in_ok-facts.was) in
     (a, record { some_worker = q.some_worker; few_workers = q.few_workers; small_gap = q.small_gap; some_depth = omega (arith, depth_is a, depth_some _ a.rules) }, q.few_quota)
 
-pub returns-in-Err : goal.returns-in-Err
-returns-in-Err c = not_refused _ c.requires.0 (sym c.load_in-loaded.ensures.value ∙ c.in-Err.is)
+pub returns-in_err-facts : goal.returns-in_err-facts
+returns-in_err-facts c = not_refused _ c.requires.0 (sym c.load_in.ensures.value ∙ c.in_err-facts.was)
 
-pub returns-in-Ok : goal.returns-in-Ok
-returns-in-Ok c = ap Ok c.numbers.ensures
+pub returns : goal.returns
+returns c = ap Ok c.numbers.ensures

@@ -22,7 +22,7 @@ pub returns-in-Err : goal.returns-in-Err
 returns-in-Err c = record { value = own _ _ _ (sym c.check_in-found.ensures.value ∙ c.in-Err.is); rises_after = c.check_in-found.ensures.rises_after }
 
 pub returns-then-outside : goal.returns-then-outside
-returns-then-outside c = record { value = workers _ _ _ (sym c.check_in-found.ensures.value ∙ c.in_default.is) (sym c.outside.ensures ∙ c.if-outside.true); rises_after = c.check_in-found.ensures.rises_after }
+returns-then-outside c = record { value = c.new.ensures ∙ workers _ _ _ (sym c.check_in-found.ensures.value ∙ c.in_default.is) (sym c.outside.ensures ∙ c.if-outside.true); rises_after = c.check_in-found.ensures.rises_after }
 
 pub returns : goal.returns
-returns c = record { value = behind _ _ _ (sym c.check_in-found.ensures.value ∙ c.in_default.is) (sym c.outside.ensures ∙ c.if-outside.false); rises_after = c.check_in-found.ensures.rises_after }
+returns c = record { value = c.new-2.ensures ∙ behind _ _ _ (sym c.check_in-found.ensures.value ∙ c.in_default.is) (sym c.outside.ensures ∙ c.if-outside.false); rises_after = c.check_in-found.ensures.rises_after }

@@ -1,12 +1,12 @@
 -- `useful_limit::line::answer_to` meets its contract: what follows the thirteen bytes is the table.
-use mathlib.Core.Path.{◌≡◌, ◌∙◌}
+use mathlib.Core.Path.{◌≡◌, ap, ◌∙◌}
 use Prim.Native.Nat.{ℕ, ◌-◌, ◌≤◌, ◌<◌}
 use mathlib.Core.List.{List}
 use borrow.Author.Tests.{lt-ltb, le-ltb}
 use lib.ListN.{length, take, drop}
 use Rattle.table.specs.Pass.{refusal}
 use Rattle.table.proofs.Parts.{rest_part}
-use Rattle.useful_limit.specs.declared.Fitted.TheVariants.{Refused}
+use Rattle.std.specs.Prelude.{Err}
 use Rattle.useful_limit.specs.Fit.{fitted}
 use Rattle.quota.specs.Line.{workers_in, gap_in, memory_in}
 use Rattle.useful_limit.specs.Line.{fitted_to}
@@ -14,7 +14,7 @@ use borrow.Author.Rules.{rules}
 use Rattle.useful_limit.proofs.line.answer_to.Goals as goal
 
 module _ (s : List ℕ) where
-  short : length s < 13 → Refused (refusal 33 0) ≡ fitted_to s
+  short : length s < 13 → Err (refusal 33 0) ≡ fitted_to s
   unfolding fitted_to
   short h = rw (lt-ltb (length s) 13 h)
 
@@ -23,7 +23,7 @@ module _ (s : List ℕ) where
   whole h ep eb eM = rw (le-ltb (length s) 13 h, ep, eb, eM, rest_part s 13)
 
 pub returns-then-input-lt13 : goal.returns-then-input-lt13
-returns-then-input-lt13 c = c.refuse.ensures ∙ short _ c.if-input-lt13.true
+returns-then-input-lt13 c = ap Err c.new.ensures ∙ short _ c.if-input-lt13.true
 
 pub returns : goal.returns
 returns c =

@@ -1,6 +1,6 @@
 -- `useful_limit::line::limit_to` meets its contract: what follows the eight bytes is the table.
 use Rattle.std.specs.Prelude.{Err}
-use mathlib.Core.Path.{◌≡◌, ◌∙◌}
+use mathlib.Core.Path.{◌≡◌, ap, ◌∙◌}
 use Prim.Native.Nat.{ℕ, ◌-◌, ◌≤◌, ◌<◌}
 use mathlib.Core.List.{List}
 use borrow.Author.Tests.{lt-ltb, le-ltb}
@@ -24,9 +24,9 @@ module _ (s : List ℕ) where
   whole h ep eK eb = rw (le-ltb (length s) 8 h, ep, eK, eb, rest_part s 8)
 
 pub returns-then-input-lt8 : goal.returns-then-input-lt8
-returns-then-input-lt8 c = short _ c.if-input-lt8.true
+returns-then-input-lt8 c = ap Err c.new.ensures ∙ short _ c.if-input-lt8.true
 
 pub returns : goal.returns
 returns c =
     c.limit_whole.ensures
-    ∙ whole _ c.if-input-lt8.false c.byte.ensures c.quota_in.ensures c.number_in.ensures
+    ∙ whole _ c.if-input-lt8.false c.byte.ensures c.three_bytes.ensures c.four_bytes.ensures

@@ -1,7 +1,6 @@
 -- `wivakkol_pace::runs::nobody` meets its contract.
 use mathlib.Core.Path.{ap}
 use Prim.Native.Nat.{ℕ}
-use borrow.Author.Rules.{rules}
 use lib.Dec.{eqb}
 use Rattle.wivakkol_pace.proofs.runs.nobody.Goals as goal
 

@@ -2,11 +2,10 @@
 use mathlib.Core.Path.{◌∙◌}
 use Rattle.run_memory.specs.Blocks.{memory_of}
 use Rattle.wivakkol_pace.proofs.PacedDrives.{put, rounds_is}
-use borrow.Author.Rules.{rules}
 use Rattle.wivakkol_pace.proofs.runs.wivakkol_paced_rounds_on.Goals as goal
 
 pub returns : goal.returns
 returns c =
     let d = c.args in
-    put c.run_in-stop.ensures c.put_run.ensures.value c.put_run.ensures.row_after
+    put _ _ _ c.run_in-stop.ensures.run_value c.run_in-stop.ensures.nonzero c.put_run.ensures.value c.put_run.ensures.row_after
     ∙ rounds_is d.table.now d.limit (memory_of d.bytes.now d.words.now d.numbers.now d.sums.now) d.pace.now

@@ -1,6 +1,5 @@
 -- `wivakkol_pace::runs::worker_of` meets its contract: rounds go on from the pace, a list names the worker.
 use mathlib.Core.Path.{◌∙◌}
-use borrow.Author.Rules.{rules}
 use Rattle.wivakkol_pace.proofs.PacedDrives.{worker_next, worker_listed}
 use Rattle.wivakkol_pace.proofs.runs.worker_of.Goals as goal
 

@@ -1,9 +1,0 @@
--- Each repeat uses up one of those left.
-use Rattle.std.proofs.Common.{◌≤◌}
-use Rattle.bench_runs.proofs.repeated.Given as goal
-
-abbrev pub invariant-loop-left : goal.invariant-loop-left
-invariant-loop-left l = l.left ≤ l.count
-
-abbrev pub decreases-loop-left : goal.decreases-loop-left
-decreases-loop-left l = l.left
