@@ -51,7 +51,6 @@ fn answer_line(program: u8, input: &[u8], line: &mut [u8; 80]) -> usize
     match program {
         b'q' => quota::quota_line(input, line),
         b'l' => most::turns_line(input, line),
-        b'm' => useful_limit::limit_line(input, line),
         b'f' => useful_limit::fit_line(input, line),
         b'd' => deque_limit::choice_line(input, line),
         _ => text::facts_line(facts::load(input), line),
@@ -63,6 +62,14 @@ fn answer(rt: &HostRuntime, program: u8, buffer: &mut [u8]) -> io::Result<()> {
     let n = read_full(&mut rt.stdin(), buffer)?;
     let mut line = [0u8; 80];
     let k = answer_line(program, &buffer[..n], &mut line);
+    rt.stdout().write_all(&line[..k])
+}
+
+// The same of an input of `memlimit`, whose line is longer.
+fn limit_answer(rt: &HostRuntime, buffer: &mut [u8]) -> io::Result<()> {
+    let n = read_full(&mut rt.stdin(), buffer)?;
+    let mut line = [0u8; 160];
+    let k = useful_limit::limit_line(&buffer[..n], &mut line);
     rt.stdout().write_all(&line[..k])
 }
 
@@ -79,7 +86,10 @@ fn one(rt: &HostRuntime) -> io::Result<bool> {
     let length = long_length(rt)?;
     let mut bytes = streams::large_buffer();
     let n = within(length, &bytes);
-    answer(rt, program, &mut bytes[..n])?;
+    match program {
+        b'm' => limit_answer(rt, &mut bytes[..n])?,
+        _ => answer(rt, program, &mut bytes[..n])?,
+    }
     Ok(true)
 }
 
