@@ -5,7 +5,7 @@ use mathlib.Core.Logic.{◌⊎◌, inl, inr}
 use Rattle.table.specs.Format.{is}
 use Rattle.table.specs.declared.kinds.Kind.{Kind}
 use Rattle.table.specs.declared.kinds.Kind.TheVariants.{Fork as fork, Join as join}
-use Rattle.table.proofs.Tests.{same_is, other_is}
+use Rattle.table.proofs.Tests.{other_is}
 use Rattle.origin.proofs.names_thread.Goals as goal
 
 either : (k : Kind) → (k ≡ fork) ⊎ (k ≡ join) → true ≡ (is fork k || is join k)
