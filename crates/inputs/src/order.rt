@@ -5,8 +5,7 @@ ghost use Rattle.inputs.specs.Front.{added, order_from};
 ghost use Rattle.inputs.specs.Code.Steps.{Room, Ordering};
 
 use crate::Wanted;
-use crate::number::read_number;
-use assembly::word::first_word;
+use assembly::word::{first_word, read_number};
 
 // One worker more, after n.
 fn add_worker(w: &[u8], order: &mut [u8], n: usize) -> Result<usize, Wanted>
