@@ -9,7 +9,6 @@ ghost use Rattle.io.specs.Counts.{IsPrefixLen};
 
 use pace::kept;
 use pacing::Pace;
-use preview::Previewed;
 use schedule::{Reply, Report, Run, Taken, Worker};
 use std::io;
 use std::io::Write;
@@ -319,23 +318,16 @@ fn call_turn(rt: &HostRuntime, run: Run) -> io::Result<Run> {
 }
 
 fn call_preview(rt: &HostRuntime, run: Run) -> io::Result<Run> {
-    let shown = preview::preview(run, one_byte(rt)?);
-    match shown {
-        Previewed::Would {
-            reply,
-            passed,
-            held,
-            highest,
-            quota,
-        } => {
+    match preview::preview(run, one_byte(rt)?) {
+        Ok(foreseen) => {
             say(rt, b"would ")?;
-            tell_reply(rt, reply)?;
-            tell(rt, b" passed ", passed as u64)?;
-            tell(rt, b" held ", held)?;
-            tell(rt, b" highest ", highest)?;
-            tell(rt, b" quota ", quota as u64)?;
+            tell_reply(rt, foreseen.reply)?;
+            tell(rt, b" passed ", foreseen.passed as u64)?;
+            tell(rt, b" held ", foreseen.held)?;
+            tell(rt, b" highest ", foreseen.highest)?;
+            tell(rt, b" quota ", foreseen.quota as u64)?;
         }
-        Previewed::Refused(x) => {
+        Err(x) => {
             say(rt, b"refused")?;
             tell_refusal(rt, x)?;
         }
