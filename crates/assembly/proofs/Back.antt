@@ -12,10 +12,11 @@ use lib.Seq.{drop-cons}
 use Rattle.table.specs.Sum.{pick, sum_to}
 use Rattle.table.specs.Format.{Table, u16_at, u24_at}
 use Rattle.assembly.specs.Assembly.{checked_from, is_thread, is_action, how_many, body_count, pair_row, action_row, entries_from, action_rows, actions_in}
-use Rattle.assembly.proofs.Counts.{no_fault}
+use Rattle.assembly.proofs.Counts.{no_fault, same_counts}
 use Rattle.assembly.specs.declared.Said.{Said}
 use Rattle.assembly.specs.declared.Said.TheVariants.{Nothing, Thread, Action, Expects}
-use Rattle.assembly.specs.declared.check.Checked.TheVariants.{WellFormed}
+use Rattle.std.specs.Prelude.{Ok}
+use Rattle.assembly.specs.Assembly.{counts_of}
 
 -- ---- what a table says, thread by thread
 
@@ -34,38 +35,37 @@ table_saids T (suc k) = table_saids T k ++ thread_saids T k
 
 -- ---- it is well-formed
 
-checked_append : (l r : List Said) (line n m a b : ℕ) → checked_from line n m l ≡ WellFormed a b → checked_from line n m (l ++ r) ≡ checked_from (line + length l) a b r
+checked_append : (l r : List Said) (line n m a b : ℕ) → checked_from line n m l ≡ Ok (counts_of a b) → checked_from line n m (l ++ r) ≡ checked_from (line + length l) a b r
 unfolding checked_from
 checked_append [] r line n m a b q =
-    let x : n ≡ a = cc in
-    let y : m ≡ b = cc in
+    let p = same_counts q in
     let z : line + 0 ≡ line = omega arith in
-    rw (x, y, z)
+    rw (p.0, p.1, z)
 checked_append (Nothing ∷ l) r line n m a b q = let z : line + suc (length l) ≡ suc line + length l = omega arith in rw z (checked_append l r (suc line) n m a b q)
 checked_append (Thread t ∷ l) r line n m a b q = go (eqb t n) refl (checked_append l r (suc line) (n + 1) m a b)
   where
-    go : (u : Bool) → eqb t n ≡ u → (checked_from (suc line) (n + 1) m l ≡ WellFormed a b → checked_from (suc line) (n + 1) m (l ++ r) ≡ checked_from (suc line + length l) a b r)
+    go : (u : Bool) → eqb t n ≡ u → (checked_from (suc line) (n + 1) m l ≡ Ok (counts_of a b) → checked_from (suc line) (n + 1) m (l ++ r) ≡ checked_from (suc line + length l) a b r)
         → checked_from line n m (Thread t ∷ (l ++ r)) ≡ checked_from (line + suc (length l)) a b r
     go true e ih = let z : line + suc (length l) ≡ suc line + length l = omega arith in rw (e, z) (ih (rw e at q))
     go false e ih = absurd (no_fault line (rw e at q))
 checked_append (Action k x ∷ l) r line n m a b q = go (eqb n 0) refl (checked_append l r (suc line) n (m + 1) a b)
   where
-    go : (u : Bool) → eqb n 0 ≡ u → (checked_from (suc line) n (m + 1) l ≡ WellFormed a b → checked_from (suc line) n (m + 1) (l ++ r) ≡ checked_from (suc line + length l) a b r)
+    go : (u : Bool) → eqb n 0 ≡ u → (checked_from (suc line) n (m + 1) l ≡ Ok (counts_of a b) → checked_from (suc line) n (m + 1) (l ++ r) ≡ checked_from (suc line + length l) a b r)
         → checked_from line n m (Action k x ∷ (l ++ r)) ≡ checked_from (line + suc (length l)) a b r
     go true e ih = absurd (no_fault line (rw e at q))
     go false e ih = let z : line + suc (length l) ≡ suc line + length l = omega arith in rw (e, z) (ih (rw e at q))
 checked_append (Expects e ∷ l) r line n m a b q = absurd (no_fault line q)
 
 module _ (T : Table) where
-  body_checked : (k a line n m : ℕ) → 0 < n → checked_from line n m (body_saids T a k) ≡ WellFormed n (m + k)
+  body_checked : (k a line n m : ℕ) → 0 < n → checked_from line n m (body_saids T a k) ≡ Ok (counts_of n (m + k))
   unfolding body_saids checked_from
-  body_checked zero a line n m h = ap (WellFormed n) (omega arith)
+  body_checked zero a line n m h = ap (λ (x : ℕ). Ok (counts_of n x)) (omega arith)
   body_checked (suc k) a line n m h =
       let z : eqb n 0 ≡ false = ne_eqb n 0 (λ e. omega (arith, e)) in
       checked_append (body_saids T a k) (Action (T.code (a + k)) (T.argument (a + k)) ∷ []) line n m n (m + k) (body_checked k a line n m h)
-      ∙ rw z (ap (WellFormed n) (omega arith))
+      ∙ rw z (ap (λ (x : ℕ). Ok (counts_of n x)) (omega arith))
 
-  pub table_checked : (k line : ℕ) → checked_from line 0 0 (table_saids T k) ≡ WellFormed k (sum_to T.count k)
+  pub table_checked : (k line : ℕ) → checked_from line 0 0 (table_saids T k) ≡ Ok (counts_of k (sum_to T.count k))
   unfolding table_saids checked_from sum_to
   table_checked zero line = refl
   table_checked (suc k) line =

@@ -20,7 +20,7 @@ use Rattle.assembly.specs.declared.Said.TheVariants.{Nothing, Thread, Action, Ex
 -- ---- numbers
 
 -- no number stays none
-none_stays : (w : List ℕ) → value_from no_number w ≡ no_number
+pub none_stays : (w : List ℕ) → value_from no_number w ≡ no_number
 unfolding value_from
 none_stays [] = refl
 none_stays (b ∷ w) = go (is_digit b) (none_stays w)

@@ -16,12 +16,11 @@ use Rattle.assembly.specs.Words.{onto, parts, is_newline, lines_of}
 use Rattle.assembly.specs.Said.{line_said, saids}
 use Rattle.assembly.specs.Assembly.{counted_by, onward, checked_from, checked, table_bytes, longest_text, left_after, line_that, names_thread, is_thread, is_action, refused_at, judged, sizes_outside, answered, assembled}
 use Rattle.assembly.specs.declared.Said.{Said}
-use Rattle.assembly.specs.declared.check.Counting.{Counting}
-use Rattle.assembly.specs.declared.check.Counting.TheVariants.{Counted, Stopped}
-use Rattle.assembly.specs.declared.check.Checked.{Checked}
-use Rattle.assembly.specs.declared.check.Checked.TheVariants.{WellFormed, Fault}
 use Rattle.assembly.specs.declared.AssemblyError.{AssemblyError}
 use Rattle.assembly.specs.declared.AssemblyError.TheVariants.{TooLong, Malformed, Refused}
+use Rattle.assembly.specs.declared.check.Counts.{Counts}
+use Rattle.assembly.specs.declared.check.Fault.{Fault}
+use Rattle.assembly.specs.declared.Expected.{Expected}
 
 parts_length : (p : ℕ → Bool) (s : List ℕ) → length (parts p s) ≤ length s
 unfolding parts
@@ -37,19 +36,19 @@ saids_length : (s : List ℕ) → length (saids s) ≤ length s
 saids_length s = rw (length-map (lines_of s) line_said) (parts_length is_newline s)
 
 -- the line of a check's fault, 0 where there is none
-abbrev fault_line : Checked → ℕ
-fault_line (Fault line e) = line
-fault_line (WellFormed n m) = 0
+abbrev fault_line : Result Counts Fault → ℕ
+fault_line (Err e) = e.line
+fault_line (Ok c) = 0
 
 fault_near : (l : List Said) (line n m : ℕ) → fault_line (checked_from line n m l) ≤ line + length l
 unfolding checked_from
 fault_near [] line n m = omega arith
 fault_near (x ∷ l) line n m = go (counted_by x n m) (λ (a b : ℕ). fault_near l (suc line) a b)
   where
-    go : (c : Counting) → ((a b : ℕ) → fault_line (checked_from (suc line) a b l) ≤ suc line + length l)
+    go : (c : Result Counts Expected) → ((a b : ℕ) → fault_line (checked_from (suc line) a b l) ≤ suc line + length l)
         → fault_line (onward c line (λ (a b : ℕ). checked_from (suc line) a b l)) ≤ line + suc (length l)
-    go (Counted a b) h = omega (arith, h a b)
-    go (Stopped e) h = omega arith
+    go (Ok c) h = omega (arith, h c.threads c.actions)
+    go (Err e) h = omega arith
 
 line_near : (p : Said → Bool) (l : List Said) (line k : ℕ) → line_that p line k l ≤ line + length l
 unfolding line_that
@@ -81,10 +80,10 @@ unfolding line_of
 judged_near (Ok f) l = omega arith
 judged_near (Err r) l = refused_near r l
 
-answered_near : (c : Checked) (l : List Said) → fault_line c ≤ 1 + length l → line_of (answered c l) ≤ 1 + length l
+answered_near : (c : Result Counts Fault) (l : List Said) → fault_line c ≤ 1 + length l → line_of (answered c l) ≤ 1 + length l
 unfolding line_of
-answered_near (Fault line e) l h = h
-answered_near (WellFormed n m) l h = go (sizes_outside n m)
+answered_near (Err e) l h = h
+answered_near (Ok c) l h = go (sizes_outside c.threads c.actions)
   where
     go : (t : Bool) → line_of (pick t (Err (Refused (record { number = 2; place = 0 }) 0)) (judged (loaded (table_bytes l)) l)) ≤ 1 + length l
     go true = omega arith

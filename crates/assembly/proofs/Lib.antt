@@ -12,4 +12,5 @@ pub mod SameWords
 pub mod FaultLines
 pub mod Within
 pub mod Exact
+pub mod Upto
 pub mod WordsBack

@@ -16,12 +16,12 @@ use Rattle.table.specs.Load.{loaded}
 use Rattle.assembly.specs.Said.{saids}
 use Rattle.assembly.specs.Assembly.{needing, checked, longest_text, sizes_outside, bytes_by, bytes_needed, or_short, kept_if_short, assembled, assembling, assembled_in, assembling_in}
 use Rattle.assembly.specs.Disassembly.{most_of, disassembled, disassembling, disassembled_in, disassembling_in}
-use Rattle.assembly.specs.declared.check.Checked.{Checked}
-use Rattle.assembly.specs.declared.check.Checked.TheVariants.{WellFormed, Fault}
 use Rattle.assembly.proofs.TableRows.{in_range}
 use Rattle.assembly.proofs.Accepted.{shape}
 use Rattle.assembly.specs.declared.AssemblyError.{AssemblyError}
 use Rattle.assembly.specs.declared.Short.{Short}
+use Rattle.assembly.specs.declared.check.Counts.{Counts}
+use Rattle.assembly.specs.declared.check.Fault.{Fault}
 
 -- ---- an answer, or the bytes that are lacking
 
@@ -39,13 +39,13 @@ kept k out w h = rw (lt-ltb (length out) k h)
 
 -- ---- the longest table
 
-bytes_by_most : (y : Checked) → bytes_by y ≤ 36868
-bytes_by_most (Fault line e) = omega arith
-bytes_by_most (WellFormed n m) = go (sizes_outside n m) refl
+bytes_by_most : (y : Result Counts Fault) → bytes_by y ≤ 36868
+bytes_by_most (Err e) = omega arith
+bytes_by_most (Ok c) = go (sizes_outside c.threads c.actions) refl
   where
-    go : (t : Bool) → sizes_outside n m ≡ t → pick t 0 (4 + 4 * n + 4 * m) ≤ 36868
+    go : (t : Bool) → sizes_outside c.threads c.actions ≡ t → pick t 0 (4 + 4 * c.threads + 4 * c.actions) ≤ 36868
     go true e = omega arith
-    go false e = let r = in_range n m e in omega (arith, r.0, r.1)
+    go false e = let r = in_range c.threads c.actions e in omega (arith, r.0, r.1)
 
 bytes_most : (s : List ℕ) → bytes_needed s ≤ 36868
 unfolding bytes_needed

@@ -26,10 +26,10 @@ use Rattle.assembly.specs.Said.{saids}
 use Rattle.assembly.specs.Assembly.{checked_from, pair_row, action_row, entries_from, actions_in, table_bytes, over, longest_text, assembled, assembled_in}
 use Rattle.assembly.specs.Disassembly.{thread_texts, operand_texts, action_texts, number_texts, line_texts, body_texts, threads_texts, text_of}
 use Rattle.assembly.specs.declared.Said.TheVariants.{Thread, Action}
-use Rattle.assembly.specs.declared.check.Checked.TheVariants.{WellFormed}
 use Rattle.assembly.proofs.Accepted.{Shape, shape}
 use Rattle.assembly.proofs.Says.{SaysAs, says_none, says_both, thread_says, BareIsZero, action_says}
 use Rattle.assembly.proofs.Back.{Bytes, body_saids, thread_saids, table_saids, table_checked, table_threads, table_actions, entries_next, actions_append, pair_four, action_four}
+use Rattle.assembly.specs.Assembly.{counts_of}
 
 -- ---- an action of an accepted table keeps the rule of its kind
 
@@ -256,7 +256,7 @@ assembled_back s bytes f e =
     let short = le-ltb longest_text (length (text_of (table_of s))) (text_length s bytes z) in
     let says = text_says s bytes z in
     let back = table_back s bytes z in
-    let counts : checked_from 1 0 0 (table_saids (table_of s) (threads_of s)) ≡ WellFormed (threads_of s) (actions_of s) = table_checked (table_of s) (threads_of s) 1 ∙ ap (WellFormed (threads_of s)) z.counts in
+    let counts : checked_from 1 0 0 (table_saids (table_of s) (threads_of s)) ≡ Ok (counts_of (threads_of s) (actions_of s)) = table_checked (table_of s) (threads_of s) 1 ∙ ap (λ (x : ℕ). Ok (counts_of (threads_of s) x)) z.counts in
     record {
       answer = rw (short, says, counts, z.rules.head.ranged, back, e) (ap Ok (ap length back));
       buffer = λ out. rw (short, says, counts, z.rules.head.ranged, back);

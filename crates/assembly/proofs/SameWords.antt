@@ -19,10 +19,11 @@ use Rattle.assembly.specs.Assembly.{checked_from, checked, is_thread, is_action,
 use Rattle.assembly.specs.declared.Expected.{Expected}
 use Rattle.assembly.specs.declared.Said.{Said}
 use Rattle.assembly.specs.declared.Said.TheVariants.{Nothing, Thread, Action, Expects}
-use Rattle.assembly.specs.declared.check.Checked.{Checked}
-use Rattle.assembly.specs.declared.check.Checked.TheVariants.{WellFormed, Fault}
 use Rattle.assembly.proofs.Counts.{no_fault}
 use Rattle.assembly.specs.declared.AssemblyError.TheVariants.{TooLong, Refused}
+use Rattle.assembly.specs.declared.check.Counts.{Counts}
+use Rattle.assembly.specs.declared.check.Fault.{Fault}
+use Rattle.assembly.specs.Assembly.{counts_of}
 
 -- ---- the lines that say something
 
@@ -111,38 +112,38 @@ unfolding table_bytes
 table_spoken l = rw (many_spoken is_thread l refl, many_spoken is_action l refl, entries_spoken l 0, actions_spoken l)
 
 -- a well-formed text stays so without them, whatever its lines' numbers
-pub checked_spoken : (l : List Said) (line line' n m a b : ℕ) → checked_from line n m l ≡ WellFormed a b → checked_from line' n m (spoken l) ≡ WellFormed a b
+pub checked_spoken : (l : List Said) (line line' n m a b : ℕ) → checked_from line n m l ≡ Ok (counts_of a b) → checked_from line' n m (spoken l) ≡ Ok (counts_of a b)
 unfolding spoken checked_from
 checked_spoken [] line line' n m a b q = q
 checked_spoken (Nothing ∷ l) line line' n m a b q = checked_spoken l (suc line) line' n m a b q
 checked_spoken (Thread t ∷ l) line line' n m a b q = go (eqb t n) refl (checked_spoken l (suc line) (suc line') (n + 1) m a b)
   where
-    go : (u : Bool) → eqb t n ≡ u → (checked_from (suc line) (n + 1) m l ≡ WellFormed a b → checked_from (suc line') (n + 1) m (spoken l) ≡ WellFormed a b)
-        → checked_from line' n m (Thread t ∷ spoken l) ≡ WellFormed a b
+    go : (u : Bool) → eqb t n ≡ u → (checked_from (suc line) (n + 1) m l ≡ Ok (counts_of a b) → checked_from (suc line') (n + 1) m (spoken l) ≡ Ok (counts_of a b))
+        → checked_from line' n m (Thread t ∷ spoken l) ≡ Ok (counts_of a b)
     go true e ih = rw e (ih (rw e at q))
     go false e ih = absurd (no_fault line (rw e at q))
 checked_spoken (Action k x ∷ l) line line' n m a b q = go (eqb n 0) refl (checked_spoken l (suc line) (suc line') n (m + 1) a b)
   where
-    go : (u : Bool) → eqb n 0 ≡ u → (checked_from (suc line) n (m + 1) l ≡ WellFormed a b → checked_from (suc line') n (m + 1) (spoken l) ≡ WellFormed a b)
-        → checked_from line' n m (Action k x ∷ spoken l) ≡ WellFormed a b
+    go : (u : Bool) → eqb n 0 ≡ u → (checked_from (suc line) n (m + 1) l ≡ Ok (counts_of a b) → checked_from (suc line') n (m + 1) (spoken l) ≡ Ok (counts_of a b))
+        → checked_from line' n m (Action k x ∷ spoken l) ≡ Ok (counts_of a b)
     go true e ih = absurd (no_fault line (rw e at q))
     go false e ih = rw e (ih (rw e at q))
 checked_spoken (Expects e ∷ l) line line' n m a b q = absurd (no_fault line q)
 
-pub spoken_checked : (l : List Said) (line line' n m a b : ℕ) → checked_from line' n m (spoken l) ≡ WellFormed a b → checked_from line n m l ≡ WellFormed a b
+pub spoken_checked : (l : List Said) (line line' n m a b : ℕ) → checked_from line' n m (spoken l) ≡ Ok (counts_of a b) → checked_from line n m l ≡ Ok (counts_of a b)
 unfolding spoken checked_from
 spoken_checked [] line line' n m a b q = q
 spoken_checked (Nothing ∷ l) line line' n m a b q = spoken_checked l (suc line) line' n m a b q
 spoken_checked (Thread t ∷ l) line line' n m a b q = go (eqb t n) refl (spoken_checked l (suc line) (suc line') (n + 1) m a b)
   where
-    go : (u : Bool) → eqb t n ≡ u → (checked_from (suc line') (n + 1) m (spoken l) ≡ WellFormed a b → checked_from (suc line) (n + 1) m l ≡ WellFormed a b)
-        → checked_from line n m (Thread t ∷ l) ≡ WellFormed a b
+    go : (u : Bool) → eqb t n ≡ u → (checked_from (suc line') (n + 1) m (spoken l) ≡ Ok (counts_of a b) → checked_from (suc line) (n + 1) m l ≡ Ok (counts_of a b))
+        → checked_from line n m (Thread t ∷ l) ≡ Ok (counts_of a b)
     go true e ih = rw e (ih (rw e at q))
     go false e ih = absurd (no_fault line' (rw e at q))
 spoken_checked (Action k x ∷ l) line line' n m a b q = go (eqb n 0) refl (spoken_checked l (suc line) (suc line') n (m + 1) a b)
   where
-    go : (u : Bool) → eqb n 0 ≡ u → (checked_from (suc line') n (m + 1) (spoken l) ≡ WellFormed a b → checked_from (suc line) n (m + 1) l ≡ WellFormed a b)
-        → checked_from line n m (Action k x ∷ l) ≡ WellFormed a b
+    go : (u : Bool) → eqb n 0 ≡ u → (checked_from (suc line') n (m + 1) (spoken l) ≡ Ok (counts_of a b) → checked_from (suc line) n (m + 1) l ≡ Ok (counts_of a b))
+        → checked_from line n m (Action k x ∷ l) ≡ Ok (counts_of a b)
     go true e ih = absurd (no_fault line' (rw e at q))
     go false e ih = rw e (ih (rw e at q))
 spoken_checked (Expects e ∷ l) line line' n m a b q = absurd (no_fault line' q)
@@ -154,7 +155,7 @@ pub record Assembles (s : List ℕ) (k : ℕ) : Type 0 where
   pub actions : ℕ
   pub facts : Facts
   pub short : length s ≤ longest_text
-  pub well_formed : checked (saids s) ≡ WellFormed threads actions
+  pub well_formed : checked (saids s) ≡ Ok (counts_of threads actions)
   pub sized : sizes_outside threads actions ≡ false
   pub accepted : loaded (table_bytes (saids s)) ≡ Ok facts
   pub long : k ≡ length (table_bytes (saids s))
@@ -163,18 +164,18 @@ pub assembles : (s : List ℕ) (k : ℕ) → assembled s ≡ Ok k → Assembles 
 unfolding assembled
 assembles s k q = by_length (ltb longest_text (length s)) refl
   where
-    by_loaded : (n m : ℕ) (y : Result Facts Refusal) → length s ≤ longest_text → checked (saids s) ≡ WellFormed n m → sizes_outside n m ≡ false → loaded (table_bytes (saids s)) ≡ y → judged y (saids s) ≡ Ok k → Assembles s k
+    by_loaded : (n m : ℕ) (y : Result Facts Refusal) → length s ≤ longest_text → checked (saids s) ≡ Ok (counts_of n m) → sizes_outside n m ≡ false → loaded (table_bytes (saids s)) ≡ y → judged y (saids s) ≡ Ok k → Assembles s k
     by_loaded n m (Ok f) h c i e r = record { threads = n; actions = m; facts = f; short = h; well_formed = c; sized = i; accepted = e; long = cc }
     by_loaded n m (Err x) h c i e r = absurd (let z : ◌≡◌ {A = ℕ} 0 1 = cc in omega arith)
 
-    by_size : (n m : ℕ) (b : Bool) → length s ≤ longest_text → checked (saids s) ≡ WellFormed n m → sizes_outside n m ≡ b
+    by_size : (n m : ℕ) (b : Bool) → length s ≤ longest_text → checked (saids s) ≡ Ok (counts_of n m) → sizes_outside n m ≡ b
         → pick b (Err (Refused (refusal 2 0) 0)) (judged (loaded (table_bytes (saids s))) (saids s)) ≡ Ok k → Assembles s k
     by_size n m true h c i r = absurd (let z : ◌≡◌ {A = ℕ} 0 1 = cc in omega arith)
     by_size n m false h c i r = by_loaded n m (loaded (table_bytes (saids s))) h c i refl r
 
-    by_check : (y : Checked) → length s ≤ longest_text → checked (saids s) ≡ y → answered y (saids s) ≡ Ok k → Assembles s k
-    by_check (Fault line e) h c r = absurd (let z : ◌≡◌ {A = ℕ} 0 1 = cc in omega arith)
-    by_check (WellFormed n m) h c r = by_size n m (sizes_outside n m) h c refl r
+    by_check : (y : Result Counts Fault) → length s ≤ longest_text → checked (saids s) ≡ y → answered y (saids s) ≡ Ok k → Assembles s k
+    by_check (Err e) h c r = absurd (let z : ◌≡◌ {A = ℕ} 0 1 = cc in omega arith)
+    by_check (Ok n) h c r = by_size n.threads n.actions (sizes_outside n.threads n.actions) h c refl r
 
     by_length : (b : Bool) → ltb longest_text (length s) ≡ b → Assembles s k
     by_length true e = absurd (let r : (Err TooLong) ≡ Ok k = rw e at q in let z : ◌≡◌ {A = ℕ} 0 1 = cc in omega arith)
@@ -195,7 +196,7 @@ same_words s t k e h q =
     let m = a.actions in
     let spoke : spoken (saids s) ≡ spoken (saids t) = spoken_words (lines_of s) ∙ ap (λ (l : List (List (List ℕ))). map meaning_of l) e ∙ sym (spoken_words (lines_of t)) in
     let same : table_bytes (saids s) ≡ table_bytes (saids t) = sym (table_spoken (saids s)) ∙ ap table_bytes spoke ∙ table_spoken (saids t) in
-    let counts : checked_from 1 0 0 (saids t) ≡ WellFormed n m =
+    let counts : checked_from 1 0 0 (saids t) ≡ Ok (counts_of n m) =
     spoken_checked (saids t) 1 1 0 0 n m (rw spoke at (checked_spoken (saids s) 1 1 0 0 n m a.well_formed)) in
     let long = le-ltb longest_text (length s) a.short in
     let short = le-ltb longest_text (length t) h in

@@ -16,7 +16,6 @@ use Rattle.assembly.specs.Assembly.{checked_from, is_thread, is_action, how_many
 use Rattle.assembly.specs.Disassembly.{text_of}
 use Rattle.assembly.specs.declared.Said.{Said}
 use Rattle.assembly.specs.declared.Said.TheVariants.{Nothing, Thread, Action, Expects}
-use Rattle.assembly.specs.declared.check.Checked.TheVariants.{WellFormed}
 use Rattle.assembly.proofs.Counts.{no_fault, totals}
 use Rattle.assembly.proofs.TableRows.{entries_length, in_range}
 use Rattle.assembly.proofs.Accepted.{shape}
@@ -25,6 +24,7 @@ use Rattle.assembly.proofs.RoundTrip.{text_says, table_back}
 use Rattle.assembly.proofs.SameWords.{spoken, Speaks, speaks_thread, speaks_action, speaks_expects, speaks_kept, speaks, table_spoken, checked_spoken, assembles}
 use Rattle.assembly.proofs.Exact.{Exact, SomeBytes, words_for, meaning_exact, nonempty_some}
 use Rattle.std.specs.Prelude.{Ok}
+use Rattle.assembly.specs.Assembly.{counts_of}
 
 -- ---- lines without a fault
 
@@ -38,18 +38,18 @@ abbrev NoExpects : List Said → Type 0
 NoExpects [] = Unit {0}
 NoExpects (x ∷ l) = NotExpects x × NoExpects l
 
-no_expects : (l : List Said) (line n m a b : ℕ) → checked_from line n m l ≡ WellFormed a b → NoExpects l
+no_expects : (l : List Said) (line n m a b : ℕ) → checked_from line n m l ≡ Ok (counts_of a b) → NoExpects l
 unfolding checked_from
 no_expects [] line n m a b q = tt
 no_expects (Nothing ∷ l) line n m a b q = (tt, no_expects l (suc line) n m a b q)
 no_expects (Thread t ∷ l) line n m a b q = go (eqb t n) refl (no_expects l (suc line) (n + 1) m a b)
   where
-    go : (u : Bool) → eqb t n ≡ u → (checked_from (suc line) (n + 1) m l ≡ WellFormed a b → NoExpects l) → Unit {0} × NoExpects l
+    go : (u : Bool) → eqb t n ≡ u → (checked_from (suc line) (n + 1) m l ≡ Ok (counts_of a b) → NoExpects l) → Unit {0} × NoExpects l
     go true e ih = (tt, ih (rw e at q))
     go false e ih = absurd (no_fault line (rw e at q))
 no_expects (Action k x ∷ l) line n m a b q = go (eqb n 0) refl (no_expects l (suc line) n (m + 1) a b)
   where
-    go : (u : Bool) → eqb n 0 ≡ u → (checked_from (suc line) n (m + 1) l ≡ WellFormed a b → NoExpects l) → Unit {0} × NoExpects l
+    go : (u : Bool) → eqb n 0 ≡ u → (checked_from (suc line) n (m + 1) l ≡ Ok (counts_of a b) → NoExpects l) → Unit {0} × NoExpects l
     go true e ih = absurd (no_fault line (rw e at q))
     go false e ih = (tt, ih (rw e at q))
 no_expects (Expects e ∷ l) line n m a b q = absurd (no_fault line q)
@@ -116,24 +116,24 @@ count_many (Thread t ∷ l) = omega arith
 count_many (Action k x ∷ l) = omega (arith, count_many l)
 count_many (Expects e ∷ l) = count_many l
 
-thread_checked : (line n m t : ℕ) (l : List Said) (x y : ℕ) → checked_from line n m (Thread t ∷ l) ≡ WellFormed x y → (t ≡ n) × (checked_from (suc line) (n + 1) m l ≡ WellFormed x y)
+thread_checked : (line n m t : ℕ) (l : List Said) (x y : ℕ) → checked_from line n m (Thread t ∷ l) ≡ Ok (counts_of x y) → (t ≡ n) × (checked_from (suc line) (n + 1) m l ≡ Ok (counts_of x y))
 unfolding checked_from
 thread_checked line n m t l x y q = go (eqb t n) refl
   where
-    go : (u : Bool) → eqb t n ≡ u → (t ≡ n) × (checked_from (suc line) (n + 1) m l ≡ WellFormed x y)
+    go : (u : Bool) → eqb t n ≡ u → (t ≡ n) × (checked_from (suc line) (n + 1) m l ≡ Ok (counts_of x y))
     go true e = (eqb-true t n e, rw e at q)
     go false e = absurd (no_fault line (rw e at q))
 
-action_checked : (line n m k z : ℕ) (l : List Said) (x y : ℕ) → checked_from line n m (Action k z ∷ l) ≡ WellFormed x y → checked_from (suc line) n (m + 1) l ≡ WellFormed x y
+action_checked : (line n m k z : ℕ) (l : List Said) (x y : ℕ) → checked_from line n m (Action k z ∷ l) ≡ Ok (counts_of x y) → checked_from (suc line) n (m + 1) l ≡ Ok (counts_of x y)
 unfolding checked_from
 action_checked line n m k z l x y q = go (eqb n 0) refl
   where
-    go : (u : Bool) → eqb n 0 ≡ u → checked_from (suc line) n (m + 1) l ≡ WellFormed x y
+    go : (u : Bool) → eqb n 0 ≡ u → checked_from (suc line) n (m + 1) l ≡ Ok (counts_of x y)
     go true e = absurd (no_fault line (rw e at q))
     go false e = rw e at q
 
 -- a text begins with a thread
-starts : (l : List Said) (line m x y : ℕ) → AllClear l → checked_from line 0 m l ≡ WellFormed x y → body_count l ≡ 0
+starts : (l : List Said) (line m x y : ℕ) → AllClear l → checked_from line 0 m l ≡ Ok (counts_of x y) → body_count l ≡ 0
 unfolding checked_from body_count
 starts [] line m x y h q = refl
 starts (Nothing ∷ l) line m x y h q = absurd h.0
@@ -199,7 +199,7 @@ action_rows_lem a n k x j y l r v =
       };
     }
 
-same_said : (l r : List Said) (a n line line' m m' x y x' y' : ℕ) → Rows a n l r → checked_from line n m l ≡ WellFormed x y → checked_from line' n m' r ≡ WellFormed x' y' → l ≡ r
+same_said : (l r : List Said) (a n line line' m m' x y x' y' : ℕ) → Rows a n l r → checked_from line n m l ≡ Ok (counts_of x y) → checked_from line' n m' r ≡ Ok (counts_of x' y') → l ≡ r
 unfolding body_count entries_from actions_in flatten
 same_said [] [] a n line line' m m' x y x' y' v p q = refl
 same_said [] (Nothing ∷ r) a n line line' m m' x y x' y' v p q = absurd v.clear'.0
@@ -297,7 +297,7 @@ table_parts l r h k e =
 
 record Reading (l : List Said) (n m : ℕ) : Type 0 where
   clear : AllClear l
-  checks : checked_from 1 0 0 l ≡ WellFormed n m
+  checks : checked_from 1 0 0 l ≡ Ok (counts_of n m)
   threads : n ≤ 1024
   actions : m ≤ 8192
 
@@ -337,7 +337,7 @@ words_back s k q =
     let t : ℕ = threads_of b in
     let r : List Said = table_saids (table_of b) t in
     let says : saids (text_of (table_of b)) ≡ r = text_says b bytes z in
-    let well : checked_from 1 0 0 r ≡ WellFormed t _ = table_checked (table_of b) t 1 in
+    let well : checked_from 1 0 0 r ≡ Ok (counts_of t _) = table_checked (table_of b) t 1 in
     let told' = told_lines (lines_of (text_of (table_of b))) (rw says (no_expects r 1 0 0 t _ well)) in
     let clear' : Told _ r = rw says at told' in
     let mine : Reading l n m = record { clear = told.clear; checks = checked_spoken (saids s) 1 1 0 0 n m a.well_formed; threads = range.0; actions = range.1 } in

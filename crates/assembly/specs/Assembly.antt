@@ -11,34 +11,39 @@ use Rattle.assembly.specs.Said.{saids}
 use Rattle.assembly.specs.declared.Expected.TheVariants.{NextThread}
 use Rattle.assembly.specs.declared.Said.{Said}
 use Rattle.assembly.specs.declared.Said.TheVariants.{Nothing, Thread, Action, Expects}
-use Rattle.assembly.specs.declared.check.Counting.{Counting}
-use Rattle.assembly.specs.declared.check.Counting.TheVariants.{Counted, Stopped}
-use Rattle.assembly.specs.declared.check.Checked.{Checked}
-use Rattle.assembly.specs.declared.check.Checked.TheVariants.{WellFormed, Fault}
 use Rattle.assembly.specs.declared.AssemblyError.{AssemblyError}
 use Rattle.assembly.specs.declared.AssemblyError.TheVariants.{TooLong, Malformed, Refused}
 use Rattle.assembly.specs.declared.Short.{Short}
+use Rattle.assembly.specs.declared.check.Counts.{Counts}
+use Rattle.assembly.specs.declared.check.Fault.{Fault}
+use Rattle.assembly.specs.declared.Expected.{Expected}
 
 -- ---- well-formed texts
 
--- after n threads and m actions, one line more: threads stand in order from 0 without a gap, and an action stands in a thread
-abbrev pub counted_by : Said → ℕ → ℕ → Counting
-counted_by Nothing n m = Counted n m
-counted_by (Thread t) n m = pick (eqb t n) (Counted (n + 1) m) (Stopped (NextThread n))
-counted_by (Action k x) n m = pick (eqb n 0) (Stopped (NextThread 0)) (Counted n (m + 1))
-counted_by (Expects e) n m = Stopped e
+abbrev pub counts_of : ℕ → ℕ → Counts
+counts_of n m = record { threads = n; actions = m }
 
-abbrev pub onward : Counting → ℕ → (ℕ → ℕ → Checked) → Checked
-onward (Counted n m) line rest = rest n m
-onward (Stopped e) line rest = Fault line e
+abbrev pub fault_at : ℕ → Expected → Fault
+fault_at line e = record { line = line; expected = e }
+
+-- after n threads and m actions, one line more: threads stand in order from 0 without a gap, and an action stands in a thread
+abbrev pub counted_by : Said → ℕ → ℕ → Result Counts Expected
+counted_by Nothing n m = Ok (counts_of n m)
+counted_by (Thread t) n m = pick (eqb t n) (Ok (counts_of (n + 1) m)) (Err (NextThread n))
+counted_by (Action k x) n m = pick (eqb n 0) (Err (NextThread 0)) (Ok (counts_of n (m + 1)))
+counted_by (Expects e) n m = Err e
+
+abbrev pub onward : Result Counts Expected → ℕ → (ℕ → ℕ → Result Counts Fault) → Result Counts Fault
+onward (Ok c) line rest = rest c.threads c.actions
+onward (Err e) line rest = Err (fault_at line e)
 
 -- threads and actions of a text from a line on, or its first line that is not as it should be
-unfoldable pub checked_from : ℕ → ℕ → ℕ → List Said → Checked
-checked_from line n m [] = WellFormed n m
+unfoldable pub checked_from : ℕ → ℕ → ℕ → List Said → Result Counts Fault
+checked_from line n m [] = Ok (counts_of n m)
 checked_from line n m (x ∷ l) = onward (counted_by x n m) line (λ (a b : ℕ). checked_from (suc line) a b l)
 
 -- lines are counted from 1
-abbrev pub checked : List Said → Checked
+abbrev pub checked : List Said → Result Counts Fault
 checked l = checked_from 1 0 0 l
 
 -- ---- the table's bytes
@@ -133,9 +138,9 @@ judged (Err r) l = Err (Refused r (refused_at r l))
 abbrev pub sizes_outside : ℕ → ℕ → Bool
 sizes_outside n m = outside 1 max_threads n || outside 1 max_actions m
 
-abbrev pub answered : Checked → List Said → Result ℕ AssemblyError
-answered (Fault line e) l = Err (Malformed line e)
-answered (WellFormed n m) l = pick (sizes_outside n m) (Err (Refused (refusal 2 0) 0)) (judged (loaded (table_bytes l)) l)
+abbrev pub answered : Result Counts Fault → List Said → Result ℕ AssemblyError
+answered (Err e) l = Err (Malformed e.line e.expected)
+answered (Ok c) l = pick (sizes_outside c.threads c.actions) (Err (Refused (refusal 2 0) 0)) (judged (loaded (table_bytes l)) l)
 
 unfoldable pub assembled : List ℕ → Result ℕ AssemblyError
 assembled s = pick (ltb longest_text (length s)) (Err TooLong) (answered (checked (saids s)) (saids s))
@@ -144,9 +149,9 @@ assembled s = pick (ltb longest_text (length s)) (Err TooLong) (answered (checke
 abbrev pub over : List ℕ → List ℕ → List ℕ
 over front out = front ++ drop (length front) out
 
-abbrev pub written_in : Checked → List Said → List ℕ → List ℕ
-written_in (Fault line e) l out = out
-written_in (WellFormed n m) l out = pick (sizes_outside n m) out (over (table_bytes l) out)
+abbrev pub written_in : Result Counts Fault → List Said → List ℕ → List ℕ
+written_in (Err e) l out = out
+written_in (Ok c) l out = pick (sizes_outside c.threads c.actions) out (over (table_bytes l) out)
 
 unfoldable pub assembled_in : List ℕ → List ℕ → List ℕ
 assembled_in s out = pick (ltb longest_text (length s)) out (written_in (checked (saids s)) (saids s) out)
@@ -154,9 +159,9 @@ assembled_in s out = pick (ltb longest_text (length s)) out (written_in (checked
 -- ---- in a buffer of some length
 
 -- the bytes of the table that is written, "4 + 4n + 4m"; none where the text gives none
-abbrev pub bytes_by : Checked → ℕ
-bytes_by (Fault line e) = 0
-bytes_by (WellFormed n m) = pick (sizes_outside n m) 0 (4 + 4 * n + 4 * m)
+abbrev pub bytes_by : Result Counts Fault → ℕ
+bytes_by (Err e) = 0
+bytes_by (Ok c) = pick (sizes_outside c.threads c.actions) 0 (4 + 4 * c.threads + 4 * c.actions)
 
 unfoldable pub bytes_needed : List ℕ → ℕ
 bytes_needed s = pick (ltb longest_text (length s)) 0 (bytes_by (checked (saids s)))

@@ -9,7 +9,8 @@ use Rattle.assembly.specs.Said.{code_of_word, said_by, meaning_of, saids}
 use Rattle.assembly.specs.Assembly.{checked_from, checked, how_many, body_count, entries_from, actions_in, table_bytes}
 use Rattle.assembly.specs.Disassembly.{action_texts, body_texts, threads_texts, text_of}
 use Rattle.assembly.specs.declared.Expected.TheVariants.{NextThread}
-use Rattle.assembly.specs.declared.check.Checked.TheVariants.{Fault}
+use Rattle.std.specs.Prelude.{Err}
+use Rattle.assembly.specs.Assembly.{fault_at}
 
 -- "E: thread 0 fork 1, fork 2, join 2, join 1, end; thread 1 alloc 6, work, free 6, end; thread 2 alloc 6, free 6, end"
 abbrev pub text_of_e : List ℕ
@@ -30,6 +31,6 @@ e_text : text_of (table_of E) ≡ numbered_text_of_e
 unfolding code_of kind_of table_of action_texts body_texts threads_texts text_of flatten decimal digits_of
 e_text = refl
 
-left_out : checked (saids (ascii "thread 0\nend\nthread 2\nend\n")) ≡ Fault 3 (NextThread 1)
+left_out : checked (saids (ascii "thread 0\nend\nthread 2\nend\n")) ≡ Err (fault_at 3 (NextThread 1))
 unfolding span_of parts nonempty value_from number_in same code_of_word said_by meaning_of checked_from
 left_out = refl

@@ -1,4 +1,5 @@
 pub mod Words
+pub mod Upto
 pub mod Said
 pub mod Assembly
 pub mod Disassembly

@@ -7,45 +7,55 @@ ghost use Rattle.assembly.specs.Code.Steps.{Countable};
 use crate::line::read_line;
 use crate::{Expected, Said};
 
-// After a line: the threads and actions so far, or what should have stood there.
-#[derive(Drop)]
-pub(crate) enum Counting {
-    Counted(usize, usize),
-    Stopped(Expected),
+// The threads and actions of a text, or of its lines so far.
+#[derive(Clone, Copy)]
+pub(crate) struct Counts {
+    pub(crate) threads: usize,
+    pub(crate) actions: usize,
 }
 
-// After all lines, or at the first that stops.
-#[derive(Drop)]
-pub(crate) enum Checked {
-    WellFormed(usize, usize),
-    Fault(usize, Expected),
+// The first line that is not as it should be, and what should have stood there.
+#[derive(Clone, Copy)]
+pub(crate) struct Fault {
+    pub(crate) line: usize,
+    pub(crate) expected: Expected,
 }
 
-fn counted(said: Said, n: usize, m: usize) -> Counting
+// After one line more than those of n threads and m actions: the counts, or what should have stood there.
+fn counted(said: Said, n: usize, m: usize) -> Result<Counts, Expected>
     requires { Countable n m }
     ensures { result ≡ counted_by said n m }
 {
     match said {
-        Said::Nothing => Counting::Counted(n, m),
+        Said::Nothing => Ok(Counts {
+            threads: n,
+            actions: m,
+        }),
         Said::Thread(t) => {
             if t == n {
-                Counting::Counted(n + 1, m)
+                Ok(Counts {
+                    threads: n + 1,
+                    actions: m,
+                })
             } else {
-                Counting::Stopped(Expected::NextThread(n))
+                Err(Expected::NextThread(n))
             }
         }
         Said::Action(_, _) => {
             if n == 0 {
-                Counting::Stopped(Expected::NextThread(0))
+                Err(Expected::NextThread(0))
             } else {
-                Counting::Counted(n, m + 1)
+                Ok(Counts {
+                    threads: n,
+                    actions: m + 1,
+                })
             }
         }
-        Said::Expects(e) => Counting::Stopped(e),
+        Said::Expects(e) => Err(e),
     }
 }
 
-pub(crate) fn check(text: &[u8]) -> Checked
+pub(crate) fn check(text: &[u8]) -> Result<Counts, Fault>
     requires { length text.now ≤ longest_text }
     ensures { result ≡ checked_of (saids text.now) }
 {
@@ -58,14 +68,17 @@ pub(crate) fn check(text: &[u8]) -> Checked
         let said = read.said;
         let counting = counted(said, n, m);
         match counting {
-            Counting::Stopped(e) => return Checked::Fault(line, e),
-            Counting::Counted(threads, actions) => {
-                n = threads;
-                m = actions;
+            Err(expected) => return Err(Fault { line, expected }),
+            Ok(counts) => {
+                n = counts.threads;
+                m = counts.actions;
             }
         }
         line += 1;
         at = read.next;
     }
-    Checked::WellFormed(n, m)
+    Ok(Counts {
+        threads: n,
+        actions: m,
+    })
 }

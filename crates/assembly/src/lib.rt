@@ -6,27 +6,25 @@ mod fault;
 mod line;
 mod listing;
 mod place;
-mod rows;
+mod put;
 pub mod scan;
 pub mod unseen;
 pub mod word;
 
 ghost use Rattle.std.specs.Prelude.{◌≡◌, length, replicate, Ok};
-ghost use Rattle.table.specs.Checks.{outside as is_outside};
 ghost use Rattle.table.specs.Format.{table_of};
 ghost use Rattle.assembly.specs.Said.{saids};
-ghost use Rattle.assembly.specs.declared.check.Checked.TheVariants.{WellFormed};
 ghost use Rattle.assembly.specs.Assembly.{assembled, assembled_in, answered, written_in, sizes_outside, over, bytes_by, or_short, kept_if_short, assembling, assembling_in};
 ghost use Rattle.assembly.specs.Disassembly.{text_of, most_text, disassembled, disassembled_in, disassembling, disassembling_in};
 ghost use Rattle.assembly.specs.Code.Steps.{Sized, Listable};
 
-use check::{Checked, check};
+use check::{Counts, check};
 pub use fault::{message, put_unseen};
 use listing::put_threads;
 use place::refused_at;
-use rows::put_table;
-use table::Refusal;
+use put::put_table;
 use table::read::{actions, threads};
+use table::{Refusal, outside};
 
 // What should have stood on a line: a keyword, a number of at most 24 bits, the line's end, or the next thread by its number.
 #[derive(Clone, Copy)]
@@ -81,7 +79,7 @@ pub fn assemble(text: &[u8], out: &mut [u8; 36868]) -> Result<usize, AssemblyErr
     }
 }
 
-// The same in a buffer of any length, which is as it was where the table does not fit, without recursion, in lent working memory, which may hold anything and is left cleared.
+// The same in a buffer of any length (C lends it and the four arrays), which is as it was where the table does not fit, without recursion, in lent working memory, which may hold anything and is left cleared.
 pub fn assemble_in(
     text: &[u8],
     out: &mut [u8],
@@ -119,15 +117,9 @@ fn assemble_on(
     }
     let checked = check(text);
     match checked {
-        Checked::Fault(line, e) => Ok(Err(AssemblyError::Malformed(line, e))),
-        Checked::WellFormed(n, m) => { write_table(text, n, m, out, rises, falls, peaks, depths) }
+        Err(fault) => Ok(Err(AssemblyError::Malformed(fault.line, fault.expected))),
+        Ok(counts) => write_table(text, counts, out, rises, falls, peaks, depths),
     }
-}
-
-fn outside(low: usize, high: usize, x: usize) -> bool
-    ensures { result ≡ is_outside low high x }
-{
-    x < low || high < x
 }
 
 // Check 2.
@@ -137,21 +129,22 @@ fn sizes_outside(n: usize, m: usize) -> bool
     outside(1, 1024, n) || outside(1, 8192, m)
 }
 
-// The table of a well-formed text of n threads and m actions, where it fits.
+// The table of a well-formed text of so many threads and actions, where it fits.
 fn write_table(
     text: &[u8],
-    n: usize,
-    m: usize,
+    counts: Counts,
     out: &mut [u8],
     rises: &mut [u64; 1024],
     falls: &mut [u64; 1024],
     peaks: &mut [u64; 1024],
     depths: &mut [u16; 1024],
 ) -> Result<Result<usize, AssemblyError>, Short>
-    requires { Sized text.now n m }
-    ensures value { result ≡ or_short (length out.old) (bytes_by (WellFormed n m)) (answered (WellFormed n m) (saids text.now)) }
-    ensures out_after { out.new ≡ kept_if_short (bytes_by (WellFormed n m)) out.old (written_in (WellFormed n m) (saids text.now) out.old) }
+    requires { Sized text.now counts.threads counts.actions }
+    ensures value { result ≡ or_short (length out.old) (bytes_by (Ok counts)) (answered (Ok counts) (saids text.now)) }
+    ensures out_after { out.new ≡ kept_if_short (bytes_by (Ok counts)) out.old (written_in (Ok counts) (saids text.now) out.old) }
 {
+    let n = counts.threads;
+    let m = counts.actions;
     if sizes_outside(n, m) {
         let refusal = Refusal {
             number: 2,

@@ -5,9 +5,13 @@ ghost use Rattle.assembly.specs.Said.{said_after, said_last, line_said};
 ghost use Rattle.assembly.specs.Code.Steps.{Reads, of_sort};
 
 use crate::scan::{Class, span};
-use crate::word::{NO_NUMBER, first_word, keyword, number};
+use crate::word::{first_word, keyword, read_number};
 use crate::{Expected, Said};
 
+// The largest number of a text, of 24 bits.
+const LARGEST: u64 = 16777215;
+
+// Loops over a text go from `next` to `next`: they count no index, and an iterator of lines would keep the same place.
 #[derive(Drop)]
 pub(crate) struct Line {
     pub(crate) said: Said,
@@ -57,11 +61,11 @@ fn said_after(k: u8, rest: &[u8]) -> Said
     if k < 2 {
         return Said::Expects(Expected::LineEnd);
     }
-    let x = number(&rest[start..end]);
-    if x == NO_NUMBER {
-        return Said::Expects(Expected::Number);
+    let x = read_number(&rest[start..end], LARGEST);
+    match x {
+        None => Said::Expects(Expected::Number),
+        Some(x) => said_last(k, x as usize, &rest[end..]),
     }
-    said_last(k, x, &rest[end..])
 }
 
 // A line without its newline.

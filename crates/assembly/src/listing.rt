@@ -1,12 +1,13 @@
 // A table's text: each thread's line, and its actions one to a line, each with its number as a comment.
 ghost use Rattle.std.specs.Prelude.{◌≡◌, ◌+◌, ◌*◌, ◌≤◌, ◌<◌};
 ghost use Rattle.table.specs.Sum.{sum_to};
-ghost use Rattle.table.specs.Format.{threads_of, table_of, kind_of};
+ghost use Rattle.table.specs.Format.{threads_of, table_of};
 ghost use Rattle.text.specs.Puts.{Puts};
 ghost use Rattle.assembly.specs.Disassembly.{thread_texts, operand_texts, action_texts, number_texts, body_texts, threads_texts};
 ghost use Rattle.assembly.specs.Code.Steps.{Operand};
 
-use table::read::{argument, code, count, first};
+use table::kinds::Kind;
+use table::read::{argument, count, first, kind};
 use text::{put_labelled, put_word};
 
 // A word with a number.
@@ -18,18 +19,18 @@ fn put_operand(out: &mut [u8], at: usize, word: &[u8], x: usize) -> usize
 }
 
 // An action's words.
-fn put_action(out: &mut [u8], at: usize, code: u8, x: usize) -> usize
+fn put_action(out: &mut [u8], at: usize, kind: Kind, x: usize) -> usize
     requires { x < 16777216 }
-    ensures { Puts out.old at out.new result (action_texts (kind_of code) x) 14 }
+    ensures { Puts out.old at out.new result (action_texts kind x) 14 }
 {
-    match code {
-        0 => put_word(out, at, b"end"),
-        1 => put_word(out, at, b"work"),
-        2 => put_operand(out, at, b"alloc ", x),
-        3 => put_operand(out, at, b"free ", x),
-        4 => put_operand(out, at, b"fork ", x),
-        5 => put_operand(out, at, b"join ", x),
-        _ => at,
+    match kind {
+        Kind::End => put_word(out, at, b"end"),
+        Kind::Work => put_word(out, at, b"work"),
+        Kind::Alloc => put_operand(out, at, b"alloc ", x),
+        Kind::Free => put_operand(out, at, b"free ", x),
+        Kind::Fork => put_operand(out, at, b"fork ", x),
+        Kind::Join => put_operand(out, at, b"join ", x),
+        Kind::Unknown => at,
     }
 }
 
@@ -50,7 +51,7 @@ fn put_body(out: &mut [u8], at: usize, table: &[u8], n: usize, from: usize, coun
     let mut at = at;
     for i in 0..count {
         let a = from + i;
-        at = put_action(out, at, code(table, n, a), argument(table, n, a));
+        at = put_action(out, at, kind(table, n, a), argument(table, n, a));
         at = put_number(out, at, a);
     }
     at

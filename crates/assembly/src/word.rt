@@ -1,13 +1,10 @@
 // A line's words: the first one, a word's keyword, a word's number.
-ghost use Rattle.std.specs.Prelude.{◌≡◌, ◌≤◌};
-ghost use Rattle.assembly.specs.Words.{no_number, next_value, zero_led, same as is_same, FirstWord};
+ghost use Rattle.std.specs.Prelude.{◌≡◌, ◌&&◌, ◌+◌, ◌-◌, ◌*◌, leb};
+ghost use Rattle.assembly.specs.Words.{is_digit, zero_led, same as is_same, FirstWord};
 ghost use Rattle.assembly.specs.Said.{code_of_word};
-ghost use Rattle.assembly.specs.Code.Steps.{Valued};
+ghost use Rattle.assembly.specs.Code.Steps.{Numbered};
 
 use crate::scan::{Class, span};
-
-// The first that has no 24 bits: no number of a text.
-pub(crate) const NO_NUMBER: usize = 16777216;
 
 // Where a word starts and ends.
 #[derive(Drop)]
@@ -28,18 +25,10 @@ pub fn first_word(s: &[u8]) -> Word
 pub fn same(a: &[u8], b: &[u8]) -> bool
     ensures { result ≡ is_same a.now b.now }
 {
-    if a.len() != b.len() {
-        return false;
-    }
-    for i in 0..a.len() {
-        if a[i] != b[i] {
-            return false;
-        }
-    }
-    true
+    a == b
 }
 
-// A kind's code, 6 for `thread`, 7 for any other word.
+// A kind's code, 6 for `thread`, 7 for any other word: the numbers of `code_of_word`, on which the theorems about texts rest.
 pub(crate) fn keyword(w: &[u8]) -> u8
     ensures { result ≡ code_of_word w.now }
 {
@@ -67,20 +56,6 @@ pub(crate) fn keyword(w: &[u8]) -> u8
     7
 }
 
-fn next_value(v: usize, b: u8) -> usize
-    requires { v ≤ no_number }
-    ensures { result ≡ next_value v b }
-{
-    if b < b'0' {
-        return NO_NUMBER;
-    }
-    if b'9' < b {
-        return NO_NUMBER;
-    }
-    let x = 10 * v + (b - b'0') as usize;
-    if x < NO_NUMBER { x } else { NO_NUMBER }
-}
-
 // A 0 that other digits follow.
 pub fn zero_led(w: &[u8]) -> bool
     ensures { result ≡ zero_led w.now }
@@ -88,16 +63,36 @@ pub fn zero_led(w: &[u8]) -> bool
     1 < w.len() && w[0] == b'0'
 }
 
-// A word's number, in decimal as one writes it.
-pub(crate) fn number(w: &[u8]) -> usize
-    ensures { Valued w.now result }
+// A digit after which the number is still at most so much.
+fn goes_on(v: u64, b: u8, most: u64) -> bool
+    ensures { result ≡ (is_digit b && leb (10 * v + (b - 48)) most) }
+{
+    if b < b'0' {
+        return false;
+    }
+    if b'9' < b {
+        return false;
+    }
+    let d = (b - b'0') as u64;
+    if most < d {
+        return false;
+    }
+    v <= (most - d) / 10
+}
+
+// A word's number of at most so much, in decimal as one writes it.
+pub fn read_number(w: &[u8], most: u64) -> Option<u64>
+    ensures { Numbered most w.now result }
 {
     if zero_led(w) {
-        return NO_NUMBER;
+        return None;
     }
-    let mut v = 0;
-    for i in 0..w.len() {
-        v = next_value(v, w[i]);
+    let mut v: u64 = 0;
+    for b in w {
+        if !goes_on(v, *b, most) {
+            return None;
+        }
+        v = 10 * v + (*b - b'0') as u64;
     }
-    v
+    Some(v)
 }

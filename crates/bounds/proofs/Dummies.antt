@@ -10,7 +10,7 @@ use lib.Dec.{eqb}
 use borrow.Author.Tests.{eqb-true, eq-eqb, ne_eqb}
 use Rattle.table.specs.Sum.{pick}
 use Rattle.table.specs.Format.{code_of, is, Table, kind}
-use Rattle.table.specs.declared.kinds.Kind.TheVariants.{End as end, Work as work}
+use Rattle.table.specs.declared.kinds.Kind.TheVariants.{End as end}
 use Rattle.table.specs.Checks.{end_of, alloc_of}
 use Rattle.table.proofs.Tests.{no_way, and_both}
 use Rattle.table.proofs.Bodies.{owner_below_lem, owner_first, owner_end, after_end, end_kind}

@@ -4,10 +4,9 @@ use Prim.Native.Nat.{ℕ, ◌≤◌, ◌<◌}
 use mathlib.Core.List.{List, ◌++◌, append_assoc, Memᴰ}
 use Rattle.table.specs.Format.{Table}
 use Rattle.table.specs.Serial.{S1}
-use Rattle.table.proofs.Levels.{greatest_bound}
-use Rattle.schedule.specs.Memory.{row_memory, front_rows, peak_memory, Keeps, limit}
+use Rattle.schedule.specs.Memory.{row_memory, Keeps, limit}
 use Rattle.order.proofs.Lawful.{Lawful}
-use Rattle.schedule.proofs.Runs.Rows.{front_rest, front_workers, row_held}
+use Rattle.schedule.proofs.Runs.Rows.{front_workers, row_held}
 use Rattle.filling.proofs.Delay.{drawn_cost, Delayed}
 use Rattle.bounds.proofs.Bound.{row_bound, row_alone}
 

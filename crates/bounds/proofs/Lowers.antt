@@ -9,8 +9,7 @@ use lib.Seq.{get_or-set_other}
 use lib.Dec.{eqb, ltb}
 use borrow.Author.Tests.{eqb-true, eqb-false, ltb-false}
 use Rattle.table.specs.Sum.{pick}
-use Rattle.table.specs.Format.{is, Table}
-use Rattle.table.specs.declared.kinds.Kind.TheVariants.{Alloc as alloc}
+use Rattle.table.specs.Format.{Table}
 use Rattle.table.proofs.Tests.{no_way}
 use Rattle.schedule.specs.declared.Reply.TheVariants.{Idle}
 use Rattle.schedule.specs.Machine.{State, drawn, ready, held, ended, next_of, status_of, worker_of, counted, Stepped, stepped, act, leftmost, taken, turn_free, turn_of}

@@ -1,11 +1,11 @@
 // The numbers of a table's threads in its canonical form, on lent memory: a child's subtree is numbered before what its thread forks next.
 ghost use Rattle.std.specs.Prelude.{◌≡◌, ◌^◌, ◌<◌, ◌≤◌, length, get_or, set, replicate};
 ghost use Rattle.table.specs.Sum.{Read};
-ghost use Rattle.table.specs.Format.{kind_of, code_at, argument_at, table_of};
+ghost use Rattle.table.specs.Format.{code_at, argument_at, table_of};
 ghost use Rattle.canonical.specs.Code.NumberWalk.{cut16, fork_size, forked_sizes, sizes_down, numbered, number_body};
 ghost use Rattle.canonical.specs.Code.NumbersOf.{numbers_of, order_of, Roomy, BodyIn, NumberStepped};
 
-use table::kinds::FORK;
+use table::kinds::Kind;
 use table::read::{action_in, bodies, count, first, threads};
 
 fn wide(x: u16) -> usize
@@ -33,11 +33,16 @@ fn put_number(numbers: &mut [u16; 1024], x: usize, v: usize)
 }
 
 // The size of the child x that an action of kind k forks, else 0.
-fn fork_size(k: u8, x: usize, sizes: &[u16; 1024]) -> usize
+#[tactic(auto, unfolding(table::specs::Format::is, table::specs::Format::code_of))]
+fn fork_size(kind: Kind, x: usize, sizes: &[u16; 1024]) -> usize
     requires { length sizes.now ≡ 1024 }
-    ensures { Read (fork_size sizes.now (kind_of k) x) 65536 result }
+    ensures { Read (fork_size sizes.now kind x) 65536 result }
 {
-    if k == FORK { number_at(sizes, x) } else { 0 }
+    if matches!(kind, Kind::Fork) {
+        number_at(sizes, x)
+    } else {
+        0
+    }
 }
 
 // The sizes of the children that a body forks.
@@ -48,7 +53,7 @@ fn forked_sizes(actions: &[u8], first: usize, count: usize, sizes: &[u16; 1024])
     let mut total = 0;
     for i in 0..count {
         let action = action_in(actions, first + i);
-        total += fork_size(action.code, action.argument, sizes);
+        total += fork_size(action.kind(), action.argument, sizes);
     }
     total
 }
@@ -59,21 +64,20 @@ fn fill_sizes(table: &[u8], n: usize, actions: &[u8], sizes: &mut [u16; 1024])
     ensures { sizes.new ≡ sizes_down cut16 (table_of table.now) n (replicate 1024 0) }
 {
     *sizes = [0; 1024];
-    let mut t = n;
-    while 0 < t {
-        t -= 1;
+    for t in (0..n).rev() {
         let total = forked_sizes(actions, first(table, t), count(table, t), sizes);
         put_number(sizes, t, 1 + total);
     }
 }
 
 // One action: a forked child gets the next number.
-fn number_step(k: u8, x: usize, next: usize, sizes: &[u16; 1024], new: &mut [u16; 1024]) -> usize
+#[tactic(auto, unfolding(table::specs::Format::is, table::specs::Format::code_of))]
+fn number_step(kind: Kind, x: usize, next: usize, sizes: &[u16; 1024], new: &mut [u16; 1024]) -> usize
     requires { (length sizes.now ≡ 1024) × (length new.old ≡ 1024) × (next < 2 ^ 40) }
-    ensures { NumberStepped sizes.now (kind_of k) x (numbered new.old next) (numbered new.new result) }
+    ensures { NumberStepped sizes.now kind x (numbered new.old next) (numbered new.new result) }
 {
-    let after = next + fork_size(k, x, sizes);
-    if k == FORK {
+    let after = next + fork_size(kind, x, sizes);
+    if matches!(kind, Kind::Fork) {
         put_number(new, x, next);
     }
     after
@@ -95,7 +99,7 @@ fn number_walk(
     let mut next = start;
     for i in 0..count {
         let action = action_in(actions, first + i);
-        next = number_step(action.code, action.argument, next, sizes, new);
+        next = number_step(action.kind(), action.argument, next, sizes, new);
     }
     next
 }

@@ -10,7 +10,8 @@ use Rattle.run_memory.specs.Blocks.{part, memory_of}
 use Rattle.wivakkol.specs.Lent.{blank_memory}
 use Rattle.wivakkol_marks.specs.LentMarks.{Marks, marks, memory_at, row_from, marks_of}
 use Rattle.wivakkol_marks.proofs.MarkRefines.{kept_size}
-use Rattle.claims.proofs.Shaped.{Shaped, byte_block, words_of, numbers_of, sums_of, in_blocks_lem, part_full, blocks_shaped}
+use Rattle.claims.proofs.Shaped.{Shaped, byte_block, words_of, numbers_of, sums_of, in_blocks_lem, blocks_shaped}
+use Rattle.run_memory.proofs.Parts.{part_length}
 
 pub record MarksShaped (K : Marks) : Type 0 where
   pub flags : length K.set ≡ 8
@@ -94,5 +95,5 @@ blocks_marks_shaped b w n z hb hw hn hz =
           let y : 0 + j ≡ j = omega arith in
           subst Shaped (sym (row_at (memory_at b w n z) 8 0 j i ∙ ap (memory_at b w n z) y))
           (blocks_shaped (part (1040 * j) 1040 b) (part (6163 * j) 6163 w) (part (18 * j) 18 n) (part (1027 * j) 1027 z)
-          (part_full (1040 * j) 1040 b (omega (arith, hb, i))) (part_full (6163 * j) 6163 w (omega (arith, hw, i))) (part_full (18 * j) 18 n (omega (arith, hn, i))) (part_full (1027 * j) 1027 z (omega (arith, hz, i))));
+          (part_length (1040 * j) 1040 b (omega (arith, hb, i))) (part_length (6163 * j) 6163 w (omega (arith, hw, i))) (part_length (18 * j) 18 n (omega (arith, hn, i))) (part_length (1027 * j) 1027 z (omega (arith, hz, i))));
     }

@@ -59,21 +59,22 @@ pub record OpenAnswers (s : List ℕ) (M : Memory) (number : ℕ) : Type 0 where
   -- where it is 32, every call of document 01 on the record is refused with 32 and leaves it alone
   pub as_a_call : truths M.holds ≡ true → number ≡ 32 → (c : Call) → ((in_numbers (answer_of c (record_in s M))).number ≡ 32) × (after_call c (record_in s M) ≡ record_in s M)
 
+-- neither of two numbers is 32
+pub neither : {x y : ℕ} → (x ≡ 32 → ⊥) → (y ≡ 32 → ⊥) → (x ≡ 32) ↔ (y ≡ 32)
+neither d e = ((λ i. absurd (d i)), (λ i. absurd (e i)))
+
 -- a turn is refused with 32 exactly where check 32 applies
 pub turn_tested : (r : Run) (w : ℕ) → (◌≡◌ {A = ℕ} (pick (unsound r) 32 0) 32) ↔ ((turn_values r w).number ≡ 32)
 unfolding turn_values turn_checks try_at
 turn_tested r w = go (unsound r) refl (no_worker r w) refl (root_ended r) refl
   where
-    neither : {x y : ℕ} → (x ≡ 32 → ⊥) → (y ≡ 32 → ⊥) → (x ≡ 32) ↔ (y ≡ 32)
-    neither d e = ((λ i. absurd (d i)), (λ i. absurd (e i)))
-
     go : (x : Bool) → unsound r ≡ x → (y : Bool) → no_worker r w ≡ y → (z : Bool) → root_ended r ≡ z → (◌≡◌ {A = ℕ} (pick x 32 0) 32) ↔ ((turn_values r w).number ≡ 32)
     go true e y f z g = rw e ((λ i. refl), (λ i. refl))
     go false e true f z g = rw (e, f) (neither (λ i. omega (arith, i)) (λ i. omega (arith, i)))
     go false e false f true g = rw (e, f, g) (neither (λ i. omega (arith, i)) (λ i. omega (arith, i)))
     go false e false f false g = rw (e, f, g) (neither (λ i. omega (arith, i)) (λ i. omega (arith, i)))
 
-check_applies : (x : Bool) → ◌≡◌ {A = ℕ} (pick x 32 0) 32 → x ≡ true
+pub check_applies : (x : Bool) → ◌≡◌ {A = ℕ} (pick x 32 0) 32 → x ≡ true
 check_applies true e = refl
 check_applies false e = absurd (omega (arith, e))
 

@@ -12,6 +12,7 @@ use Rattle.schedule.specs.Record.{max_workers}
 use Rattle.array_machine.specs.Arrays.{Arrays, arrays}
 use Rattle.run_memory.specs.Memory.{Memory, memory}
 use Rattle.run_memory.specs.Blocks.{part, row_in, memory_of}
+use Rattle.run_memory.proofs.Parts.{part_length}
 
 -- a number for each thread
 abbrev pub Full : List ℕ → Type 0
@@ -143,14 +144,10 @@ module _ (M : Memory) (h : Shaped M) where
 
 -- ---- and memory that stands in blocks of their sizes has such rows
 
-pub part_full : (at n : ℕ) (l : List ℕ) → at + n ≤ length l → length (part at n l) ≡ n
-unfolding part
-part_full at n l h = length-take n (drop at l) ∙ ap (min n) (length-drop at l) ∙ min-eq_left (omega (arith, h))
-
 module _ (b w n s : List ℕ) (p : length b ≡ 1040) (q : length w ≡ 6163) (r : length n ≡ 18) (t : length s ≡ 1027) where
   row_full : (k : ℕ) → k < 6 → Full (row_in w k)
   unfolding row_in
-  row_full k h = rw (lt-ltb k 6 h) (part_full (1024 * k) 1024 w (omega (arith, q, h)))
+  row_full k h = rw (lt-ltb k 6 h) (part_length (1024 * k) 1024 w (omega (arith, q, h)))
 
   pub blocks_shaped : Shaped (memory_of b w n s)
   blocks_shaped =
@@ -160,16 +157,16 @@ module _ (b w n s : List ℕ) (p : length b ≡ 1040) (q : length w ≡ 6163) (r
         arrays =
             record {
               next = row_full 1 (omega arith);
-              status = part_full 0 1024 b (omega (arith, p));
-              amounts = part_full 0 1024 s (omega (arith, t));
+              status = part_length 0 1024 b (omega (arith, p));
+              amounts = part_length 0 1024 s (omega (arith, t));
               left = row_full 2 (omega arith);
               right = row_full 3 (omega arith);
               under = row_full 4 (omega arith);
               over = row_full 5 (omega arith);
             };
-        holds = part_full 1024 16 b (omega (arith, p));
-        threads = part_full 6144 16 w (omega (arith, q));
-        quotas = part_full 2 16 n (omega (arith, r));
+        holds = part_length 1024 16 b (omega (arith, p));
+        threads = part_length 6144 16 w (omega (arith, q));
+        quotas = part_length 2 16 n (omega (arith, r));
         heads = refl;
         totals = refl;
       }

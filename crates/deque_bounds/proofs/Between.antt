@@ -19,7 +19,7 @@ use Rattle.schedule.specs.Machine.{State, unborn, waiting, ended, next_of, statu
 use Rattle.order.specs.Order.{number_of}
 use Rattle.schedule.specs.Sound.{is_done}
 use Rattle.order.proofs.Lawful.{Lawful}
-use Rattle.order.proofs.Numbers.{number_once, number_step, number_child, number_past, number_rises}
+use Rattle.order.proofs.Numbers.{number_once, number_step, number_child, number_past}
 use Rattle.schedule.proofs.Sound.Facts.{Done, Facts}
 use Rattle.schedule.proofs.Sound.Done.{done_low, done_where, undone, number_first, next_below, owner_of_next, ended_all, undone_unborn, unborn_undone, born_forked, between_unborn}
 use Rattle.schedule.proofs.Linked.Waiting.{awaited, none_between, number_along}
@@ -93,7 +93,7 @@ module _ (T : Table) (l : Lawful T) (p K : ℕ) (st : State) (f : Facts T p K st
       omega (
         arith,
         number_past T l x h k,
-        number_along T l T l (suc x) (next_of st v) (omega arith) (next_below T l p K st f v b)
+        number_along T l (suc x) (next_of st v) (omega arith) (next_below T l p K st f v b)
             (next_owner T l.contents l.bodies x h (fork_no_end k) ∙ o ∙ sym (owner_of_next T l p K st f v b)),
       )
 
@@ -174,12 +174,12 @@ module _ (T : Table) (l : Lawful T) (p K : ℕ) (st : State) (f : Facts T p K st
                 at (no z) = omega (arith, z)
 
             up : number_of T n ≤ number_of T v
-            up = number_along T l T l n v nv i on
+            up = number_along T l n v nv i on
 
             apart : o ≡ t → ⊥
             apart z =
                 let y : v < T.first t + T.count t = rw z at (owner_end T l.contents v i) in
-                omega (arith, low, number_along T l T l v (end_of T t) (omega (arith, y, after_end T l.contents t below)) at_end_lem (z ∙ sym (owner_of_end T l.contents t below)))
+                omega (arith, low, number_along T l v (end_of T t) (omega (arith, y, after_end T l.contents t below)) at_end_lem (z ∙ sym (owner_of_end T l.contents t below)))
 
             none : (z : ℕ) → z < T.actions → owner T z ≡ owner T n → number_of T z ≡ E → ⊥
             none z h w q =

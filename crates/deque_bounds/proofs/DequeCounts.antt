@@ -35,8 +35,8 @@ use Rattle.peaks.proofs.LoadLaw.{past_step}
 use Rattle.deques.specs.Deques.{Deque, bottom}
 use Rattle.deques.specs.Lines.{line}
 use Rattle.deque_bounds.proofs.Lines.{Link, Chained}
-use Rattle.deque_bounds.proofs.Between.{number_along}
 use Rattle.deques.proofs.DequeTurns.{with_serial}
+use Rattle.schedule.proofs.Linked.Waiting.{number_along}
 
 -- ---- numbers of a whole thread
 

@@ -26,13 +26,12 @@ use Rattle.order.proofs.Words.{Ascends}
 use Rattle.schedule.proofs.Sound.Facts.{Facts}
 use Rattle.schedule.proofs.Sound.Done.{next_below}
 use Rattle.schedule.proofs.Linked.Waiting.{awaited}
-use Rattle.deques.specs.Deques.{Deque, deque, nothing, kept, bottom, above, place_of, Deques, over}
+use Rattle.deques.specs.Deques.{Deque, deque, nothing, bottom, above, place_of, Deques, over}
 use Rattle.deques.specs.Partition.{occurs, owned_by}
 use Rattle.deques.specs.Lines.{line, lines_of}
 use Rattle.deques.proofs.DequeTurns.{with_serial, serial_facts}
 use Rattle.deques.proofs.Flat.{lines_append}
 use Rattle.deque_bounds.proofs.Lines.{Link, Chained, Light}
-use Rattle.deque_bounds.proofs.ActionLeaves.{forks}
 use Rattle.deques.specs.DequeRuns.{Pair}
 use Rattle.deques.specs.Deques.{start_deques}
 use Rattle.deques.specs.DequeCalls.{row_deques}
@@ -41,9 +40,7 @@ use Rattle.deques.specs.Deques.{deque_turn}
 use Rattle.deques.proofs.Flat.{Mine, mine}
 use Rattle.deque_bounds.proofs.SerialLines.{held_by, AllLines, SerialLines}
 use Rattle.deque_bounds.proofs.SerialLinesActs.{wait_empty}
-use Rattle.deque_bounds.proofs.SerialLinesActs as Acts
 use Rattle.deque_bounds.proofs.SerialLinesTurns.{BelowAll}
-use Rattle.schedule.specs.Machine.{taken}
 use Rattle.bounds.proofs.Draws.{spent_beyond}
 use Rattle.bounds.proofs.Bound.{held_ended, held_open}
 use Rattle.deques.proofs.Counts.{in_counted}

@@ -1,7 +1,7 @@
 -- What the steals begun beyond an action may draw: a worker's next action after one is the next in serial order, or all between the two is done; so what it has left never passes an action not done.
 use mathlib.Core.Path.{◌≡◌, refl, sym, ap, subst, ◌∙◌}
 use Prim.Native.Nat.{ℕ, suc, ◌+◌, ◌≤◌, ◌<◌}
-use mathlib.Core.List.{List, [], ◌∷◌, ◌++◌}
+use mathlib.Core.List.{List, ◌∷◌, ◌++◌}
 use mathlib.Core.Bool.{Bool, true, false, ◌&&◌}
 use native.Mathlib.Omega.{arith}
 use native.Mathlib.Decide.{ℕ_discrete, dec_lt}
@@ -20,17 +20,16 @@ use Rattle.order.proofs.Numbers.{number_once, number_child}
 use Rattle.schedule.proofs.Sound.Facts.{Facts}
 use Rattle.schedule.proofs.Sound.Done.{undone_unborn, unborn_first}
 use Rattle.schedule.proofs.Preservation.Releases.{Acting, acting}
-use Rattle.deques.specs.Deques.{Deque, deque, kept, Deques, over}
+use Rattle.deques.specs.Deques.{Deque, deque, Deques, over}
 use Rattle.deques.specs.Partition.{owned_by}
 use Rattle.deques.proofs.DequeTurns.{with_serial, serial_facts}
 use Rattle.deque_bounds.proofs.Lines.{Live, Link, Chained, Moved, link_number}
 use Rattle.deque_bounds.proofs.ActionLeaves.{ActionLeaves, stays, forks, pops, drops, leaves, wakes, stops}
-use Rattle.deques.proofs.Flat.{mine}
 use Rattle.deque_bounds.proofs.SerialLines.{held_by, SerialLines}
 use Rattle.deque_bounds.proofs.SerialLinesActs.{two_links, wait_empty, tops}
 use Rattle.deque_bounds.proofs.SerialLinesActs as Acts
 use Rattle.deque_bounds.proofs.Between.{between_done}
-use Rattle.schedule.specs.Machine.{taken, drawn}
+use Rattle.schedule.specs.Machine.{drawn}
 use Rattle.bounds.proofs.Draws.{spent_beyond, stands_beyond, left_beyond}
 use Rattle.table.proofs.Sums.{sum_to_one}
 use Rattle.table.proofs.Tests.{pick_most}

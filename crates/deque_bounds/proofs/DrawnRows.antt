@@ -3,13 +3,12 @@ use mathlib.Core.Path.{◌≡◌, refl, sym, subst, ◌∙◌}
 use Prim.Native.Nat.{ℕ, ◌+◌, ◌*◌, ◌≤◌, ◌<◌}
 use mathlib.Core.List.Memᴰ
 use mathlib.Core.List.{List, [], ◌∷◌, ◌++◌}
-use mathlib.Core.Bool.{Bool, true, false, ◌&&◌}
+use mathlib.Core.Bool.{true, false, ◌&&◌}
 use native.Mathlib.Omega.{arith}
 use lib.ListN.{get_or}
 use lib.Dec.{ltb, eqb}
 use Rattle.table.specs.Sum.{pick}
 use Rattle.table.specs.Format.{Table}
-use Rattle.table.specs.declared.kinds.Kind.TheVariants.{Free as free}
 use Rattle.table.specs.Checks.{owner, alloc_of}
 use Rattle.schedule.specs.declared.Worker.{Worker}
 use Rattle.schedule.specs.Machine.{State, ready, held, nobody, next_of, status_of, worker_of}
@@ -17,7 +16,7 @@ use Rattle.order.specs.Order.{number_of}
 use Rattle.schedule.specs.Sound.{is_done}
 use Rattle.order.proofs.Lawful.{Lawful, Within}
 use Rattle.schedule.proofs.Sound.Facts.{Facts}
-use Rattle.deques.specs.Deques.{Deque, deque, nothing, is_empty, kept, bottom, robbed, Deques, over, act_deques}
+use Rattle.deques.specs.Deques.{Deque, deque, nothing, is_empty, bottom, robbed, Deques, over, act_deques}
 use Rattle.deques.proofs.DequeTurns.{with_serial, serial_facts}
 use Rattle.deques.specs.DequeRuns.{Pair}
 use Rattle.deques.specs.Deques.{start_deques}
@@ -27,7 +26,6 @@ use Rattle.deques.specs.Deques.{DequeStep, steal, deque_turn}
 use Rattle.deques.proofs.Flat.{Mine, mine}
 use Rattle.deque_bounds.proofs.SerialLines.{SerialLines}
 use Rattle.deque_bounds.proofs.SerialLinesActs.{stepped}
-use Rattle.deque_bounds.proofs.SerialLinesActs as Acts
 use Rattle.deque_bounds.proofs.SerialLinesSteals.{steal_serial_lines, steal_holds}
 use Rattle.deque_bounds.proofs.SerialLinesTurns.{BelowAll, turn_serial_lines, start_serial_lines}
 use Rattle.deques.proofs.DequeTurns.{b_ready}
@@ -40,12 +38,8 @@ use Rattle.schedule.proofs.Bounds.Acts.{set_ended}
 use Rattle.schedule.proofs.Sound.Done.{done_alike}
 use Rattle.table.proofs.Sums.{sum_to_cong, sum_to_one, sum_to_zero}
 use lib.Seq.{get_or-set_same, get_or-set_other}
-use native.Mathlib.Nat.{mul-zero, mul-one, mul-add}
+use native.Mathlib.Nat.{mul-add}
 use Rattle.deque_bounds.proofs.Drawn.{left_over, act_draws, undone_act}
-
-counted_left : (T : Table) (s : State) (v : ℕ) → left_over T (counted s) v ≡ left_over T s v
-unfolding spent_beyond left_beyond stands_beyond
-counted_left T s v = refl
 
 module _ (T : Table) (l : Lawful T) (p K : ℕ) (few : p ≤ 16) (small : Within T K) (w : ℕ) (below : w < p) (v : ℕ) (inside : v < T.actions) where
   act_drawn : (fa : ℕ) (J : ℕ → ℕ) (st : State) (ds : List Deque) → SerialLines T p K fa J (over st ds) → (worker_of st w).holds ≡ true → is_done T (act_deques T K w st ds).after.state v ≡ false

@@ -15,11 +15,11 @@ use Rattle.table.specs.Checks.{owner, end_of}
 use Rattle.table.specs.Nested.{nest}
 use Rattle.table.proofs.Tests.{no_way}
 use Rattle.table.proofs.NestedThreads.{nest_child}
-use Rattle.schedule.specs.Machine.{State, held, ended, next_of, status_of}
+use Rattle.schedule.specs.Machine.{State, ended, next_of, status_of}
 use Rattle.order.proofs.Lawful.{Lawful, Within}
 use Rattle.schedule.proofs.Sound.Facts.{Facts}
 use Rattle.schedule.proofs.Sound.Done.{next_below, owner_of_next}
-use Rattle.deques.specs.Deques.{Deque, deque, kept, bottom, Deques}
+use Rattle.deques.specs.Deques.{Deque, bottom, Deques}
 use Rattle.deques.specs.Partition.{owns, owned_by}
 use Rattle.deques.specs.Lines.{line}
 use Rattle.deques.proofs.DequeTurns.{with_serial, serial_facts}
@@ -49,7 +49,7 @@ use Rattle.bounds.proofs.Ages.{age, age_small}
 use Rattle.schedule.proofs.Bounds.Beyond.{Enabled}
 use Rattle.schedule.proofs.Sound.Leftmost.{front_done, leftmost_undone, leftmost_enabled}
 use mathlib.Core.List.{reverse_aux}
-use native.Mathlib.Nat.{mul-suc, mul-zero, mul-one, one-mul, mul-le-mul_left, mul-le-mul_right, mul-add, mul_assoc, mul_comm}
+use native.Mathlib.Nat.{mul-suc, mul-zero, mul-one, one-mul, mul-le-mul_left, mul-le-mul_right, mul-add}
 use Rattle.deques.proofs.Counts.{owned_append}
 use Rattle.deque_bounds.proofs.StealsWithinTurns.{steals_within_same}
 use Rattle.bounds.proofs.Bound.{quota_first}

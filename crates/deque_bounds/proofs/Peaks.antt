@@ -31,9 +31,6 @@ use Rattle.deque_bounds.proofs.LeapLimits.{held_within}
 abbrev Tops : State → State → Type 0
 Tops st s = s.highest ≤ max st.highest s.held
 
-same_tops : (st s : State) → s.highest ≡ st.highest → Tops st s
-same_tops st s e = omega (arith, e)
-
 act_tops : (k : Kind) (T : Table) (K w t a x : ℕ) (st : State) → Tops st (act_by k T K w t a x st).state
 unfolding act_by woken
 act_tops end T K w t a x st = either (λ (s : State). Tops st s) (waits_for T _ (parent_of T t) t) _ _ (λ i. omega arith) (λ i. omega arith)

@@ -15,7 +15,7 @@ use Rattle.schedule.specs.Machine.{State, ready, held, waiting, next_of, status_
 use Rattle.order.specs.Order.{number_of}
 use Rattle.order.proofs.Lawful.{Lawful}
 use Rattle.order.proofs.Words.{Ascends}
-use Rattle.deques.specs.Deques.{Deque, kept, Deques}
+use Rattle.deques.specs.Deques.{Deque, Deques}
 use Rattle.deques.specs.Partition.{owned_by}
 use Rattle.deques.specs.Lines.{line, lines_of}
 use Rattle.deques.proofs.DequeTurns.{Kept}

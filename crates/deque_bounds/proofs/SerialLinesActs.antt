@@ -29,7 +29,7 @@ use Rattle.schedule.proofs.Sound.Facts.{Facts}
 use Rattle.schedule.proofs.Sound.Done.{done_low, undone_unborn, unborn_first, next_below, owner_of_next, between_unborn}
 use Rattle.schedule.proofs.Preservation.Releases.{Acting, acting}
 use Rattle.schedule.proofs.Linked.Waiting.{awaited, none_between, child_left}
-use Rattle.deques.specs.Deques.{Deque, deque, kept, bottom, Deques, over, act_deques}
+use Rattle.deques.specs.Deques.{Deque, deque, bottom, Deques, over, act_deques}
 use Rattle.deques.specs.Partition.{occurs, owned_by}
 use Rattle.deques.specs.Lines.{line, lines_of}
 use Rattle.deques.proofs.Placed.{lines_same}

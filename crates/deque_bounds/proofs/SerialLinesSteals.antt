@@ -12,7 +12,7 @@ use lib.Dec.{ltb, eqb}
 use borrow.Author.Tests.{eqb-false, eq-eqb, lt-ltb, le-ltb}
 use Rattle.table.specs.Sum.{pick}
 use Rattle.table.specs.Format.{Table, kind}
-use Rattle.table.specs.declared.kinds.Kind.TheVariants.{Free as free, Fork as fork}
+use Rattle.table.specs.declared.kinds.Kind.TheVariants.{Fork as fork}
 use Rattle.table.specs.Checks.{owner, end_of}
 use Rattle.table.specs.Nested.{nest}
 use Rattle.table.proofs.Tests.{no_way}
@@ -32,7 +32,7 @@ use Rattle.deques.proofs.Bottoms.{line_bottom}
 use Rattle.deque_bounds.proofs.Lines.{Live, Parted, Chained, Light}
 use Rattle.deque_bounds.proofs.Between.{ends_before}
 use Rattle.deque_bounds.proofs.SerialLines.{held_by, AllLines, SerialLines, standing_live, all_append, all_front, all_head, all_cons}
-use Rattle.deque_bounds.specs.DequeRows.{robs, starts_at, steals_beyond, steals_far, thread_left_of}
+use Rattle.deque_bounds.specs.DequeRows.{starts_at, steals_beyond, steals_far, thread_left_of}
 use Rattle.deques.proofs.Placed.{robbed_lines}
 use Rattle.deques.proofs.DequeTurns.{taken_common, stolen, b_below, b_ready}
 use Rattle.deque_bounds.proofs.ActionLeaves.{live_set, wait_set}

@@ -18,13 +18,12 @@ use Rattle.schedule.specs.Memory.{count_in}
 use Rattle.schedule.specs.Machine.{State, waiting, status_of, worker_of}
 use Rattle.order.proofs.Lawful.{Lawful}
 use Rattle.order.proofs.Words.{Ascends}
-use Rattle.deques.specs.Deques.{Deque, nothing, is_empty, kept, bottom, robbed, Deques, over, act_deques}
+use Rattle.deques.specs.Deques.{Deque, nothing, is_empty, bottom, robbed, Deques, over, act_deques}
 use Rattle.deques.specs.Partition.{occurs, owned_by, AllInUse}
 use Rattle.deques.specs.Lines.{line, lines_of}
 use Rattle.deques.specs.Partition.{ready_at, holds_at}
 use Rattle.deques.proofs.DequeTurns.{Kept}
 use Rattle.deque_bounds.proofs.Lines.{Link, NoLiveChildBut, Parted, Chained, Light}
-use Rattle.deque_bounds.proofs.ActionLeaves.{forks}
 use Rattle.deques.specs.DequeRuns.{Pair}
 use Rattle.deques.specs.Deques.{start_deques}
 use Rattle.deques.specs.DequeCalls.{row_deques}

@@ -57,10 +57,6 @@ module _ (T : Table) (B leaps : ℕ) (J old : ℕ → ℕ) (st : State) where
   unfolding LinesWithin
   lines_within_cons d A a b = (a, b)
 
-  pub lines_within_none : LinesWithin T B leaps J old st []
-  unfolding LinesWithin
-  lines_within_none = tt
-
   pub line_within_top : (slack t : ℕ) (k : List ℕ) → LineWithin T B leaps J st slack (t ∷ k) → ThreadWithin T B leaps J st (bottom (t ∷ k)) slack t × ((y : ℕ) → Memᴰ y k → ThreadWithin T B leaps J st (bottom (t ∷ k)) 0 y)
   unfolding LineWithin
   line_within_top slack t k h = h

@@ -26,7 +26,7 @@ use Rattle.schedule.proofs.Sound.Facts.{Facts}
 use Rattle.schedule.proofs.Sound.Done.{undone_unborn, unborn_first, next_below, owner_of_next}
 use Rattle.schedule.proofs.Preservation.Releases.{Acting, acting}
 use Rattle.schedule.proofs.Linked.Waiting.{awaited}
-use Rattle.deques.specs.Deques.{Deque, deque, kept, bottom, own, Deques, over}
+use Rattle.deques.specs.Deques.{Deque, deque, bottom, Deques, over}
 use Rattle.deques.specs.Partition.{owned_by}
 use Rattle.deques.specs.Lines.{line, lines_of}
 use Rattle.deques.proofs.DequeTurns.{Kept, with_serial, serial_facts}

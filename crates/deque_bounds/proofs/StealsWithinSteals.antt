@@ -11,8 +11,6 @@ use lib.Dec.{ltb, eqb}
 use borrow.Author.Tests.{eqb-false, lt-ltb}
 use Rattle.table.specs.Sum.{pick}
 use Rattle.table.specs.Format.{Table}
-use Rattle.table.specs.declared.kinds.Kind.TheVariants.{Free as free}
-use Rattle.table.specs.Checks.{owner}
 use Rattle.table.specs.Nested.{nest}
 use Rattle.table.proofs.Tests.{no_way}
 use Rattle.schedule.specs.Machine.{State, ready, held, ended, next_of, status_of, worker_of}

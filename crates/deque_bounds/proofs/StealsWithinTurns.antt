@@ -11,13 +11,12 @@ use lib.Dec.{ltb, eqb}
 use borrow.Author.Tests.{ne_eqb, eq-eqb, ltb-true}
 use Rattle.table.specs.Sum.{pick}
 use Rattle.table.specs.Format.{Table}
-use Rattle.table.specs.Checks.{owner}
 use Rattle.table.specs.Nested.{nest}
 use Rattle.table.proofs.Tests.{no_way}
 use Rattle.schedule.specs.declared.Worker.{Worker}
 use Rattle.schedule.specs.Machine.{State, nobody, next_of, worker_of}
 use Rattle.order.proofs.Lawful.{Lawful}
-use Rattle.deques.specs.Deques.{Deque, deque, nothing, is_empty, kept, bottom, robbed, Deques, over, act_deques}
+use Rattle.deques.specs.Deques.{Deque, deque, nothing, is_empty, bottom, robbed, Deques, over, act_deques}
 use Rattle.deques.specs.Partition.{owned_by}
 use Rattle.deques.specs.Lines.{line}
 use Rattle.deques.proofs.DequeTurns.{Kept, acts}
@@ -32,7 +31,6 @@ use Rattle.deques.proofs.Flat.{Mine, mine}
 use Rattle.deque_bounds.proofs.SerialLines.{held_by, SerialLines}
 use Rattle.deques.proofs.Standing.{is_owner}
 use Rattle.deque_bounds.proofs.SerialLinesActs.{stepped, wait_empty}
-use Rattle.deque_bounds.proofs.SerialLinesSteals as Steals
 use Rattle.deque_bounds.proofs.SerialLinesSteals.{steal_serial_lines, steal_holds}
 use Rattle.deque_bounds.proofs.SerialLinesTurns.{BelowAll, none_stolen, turn_serial_lines}
 use Rattle.deque_bounds.proofs.StealsWithin.{Able, ThreadWithin, LineWithin, slack_of, LinesWithin}

@@ -32,6 +32,7 @@ use Rattle.deque_claims.proofs.BlankDeques.{blank_refines}
 use Rattle.deque_claims.proofs.DequeSizes.{deque_call_shaped}
 use Rattle.deque_claims.proofs.DequeSays.{OpenSays, open_is, open_says}
 use Rattle.deque_claims.proofs.FromC.{DequeHistory, deque_history_is, Defines, deque_history_exists}
+use Rattle.claims.proofs.Opened.{neither, check_applies}
 
 -- ---- what opening answers
 
@@ -51,9 +52,6 @@ turn_tested : (r : DequeRun) (w c : ℕ) → (◌≡◌ {A = ℕ} (pick (unsound
 unfolding deque_turn_values deque_checks try_at
 turn_tested r w c = go (unsound_deques r) refl (no_worker r.run w) refl (root_ended r.run) refl (no_choice r c) refl
   where
-    neither : {x y : ℕ} → (x ≡ 32 → ⊥) → (y ≡ 32 → ⊥) → (x ≡ 32) ↔ (y ≡ 32)
-    neither d e = ((λ i. absurd (d i)), (λ i. absurd (e i)))
-
     go : (x : Bool) → unsound_deques r ≡ x → (y : Bool) → no_worker r.run w ≡ y → (z : Bool) → root_ended r.run ≡ z → (v : Bool) → no_choice r c ≡ v
         → (◌≡◌ {A = ℕ} (pick x 32 0) 32) ↔ ((deque_turn_values r w c).number ≡ 32)
     go true e y f z g v k = rw e ((λ i. refl), (λ i. refl))
@@ -61,10 +59,6 @@ turn_tested r w c = go (unsound_deques r) refl (no_worker r.run w) refl (root_en
     go false e false f true g v k = rw (e, f, g) (neither (λ i. omega (arith, i)) (λ i. omega (arith, i)))
     go false e false f false g true k = rw (e, f, g, k) (neither (λ i. omega (arith, i)) (λ i. omega (arith, i)))
     go false e false f false g false k = rw (e, f, g, k) (neither (λ i. omega (arith, i)) (λ i. omega (arith, i)))
-
-check_applies : (x : Bool) → ◌≡◌ {A = ℕ} (pick x 32 0) 32 → x ≡ true
-check_applies true e = refl
-check_applies false e = absurd (omega (arith, e))
 
 turn_so : (r : DequeRun) → unsound_deques r ≡ true → (w c : ℕ) → deque_turned r w c ≡ record { answer = Err (refusal 32 0); run = r }
 unfolding deque_turned deque_checks try_at

@@ -30,7 +30,6 @@ use Rattle.schedule.specs.Calls.{turns_in}
 use Rattle.filling.specs.Filled.{filled_out}
 use Rattle.filling.proofs.Runs.{Runs}
 use Rattle.order.proofs.Lawful.{Lawful, lawful}
-use Rattle.order.proofs.Lists.{filled_front}
 use Rattle.schedule.proofs.Beginnings.{settings_exactly, silent_runs}
 use Rattle.schedule.proofs.Runs.Histories.{start_steady}
 use Rattle.schedule.proofs.Stores.{Fits}

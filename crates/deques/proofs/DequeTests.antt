@@ -15,12 +15,11 @@ use Rattle.table.specs.Pass.{first_found}
 use Rattle.table.specs.Checks.{passes}
 use Rattle.table.proofs.Passes.{passes_rules}
 use Rattle.schedule.specs.declared.Worker.{Worker}
-use Rattle.schedule.specs.Links.{Links}
 use Rattle.schedule.specs.Memory.{count_in}
 use Rattle.table.specs.Rules.{Rules}
 use Rattle.schedule.specs.Record.{max_bytes, set_of, bytes_of, table_in}
 use Rattle.schedule.specs.Begin.{setting_passes}
-use Rattle.schedule.specs.Sound.{Common, common_sound, same_links}
+use Rattle.schedule.specs.Sound.{Common, common_sound}
 use Rattle.schedule.proofs.Sound.Tests.{common_exactly, blank_exactly}
 use Rattle.order.specs.Words.{all_below, all_in, filled}
 use Rattle.order.proofs.Words.{and_of, or_exactly, not_exactly, eqb_exactly, ltb_exactly, all_below_exactly, all_in_exactly, same_list_exactly, is_nothing_exactly}

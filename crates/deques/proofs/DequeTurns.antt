@@ -27,7 +27,6 @@ use Rattle.schedule.proofs.Preservation.Moves.{restated, restated_facts}
 use Rattle.schedule.proofs.Preservation.Releases.{Acting, acting}
 use Rattle.schedule.proofs.Preservation.Turns.{either}
 use Rattle.schedule.proofs.Preservation.Ends.{owner_below_less}
-use Rattle.order.proofs.Words.{and_exactly}
 use Rattle.deques.specs.Deques.{Deque, deque, nothing, is_empty, bottom, place_of, own, robbed, Deques, over, goes_to, goes_on, let_go, DequeStep, act_deques, steal, deque_turn}
 use Rattle.deques.specs.Partition.{occurs, owned_by, ready_at, holds_at, PlacedDeques}
 use Rattle.schedule.proofs.SerialLive.{serial_live, listed_live}

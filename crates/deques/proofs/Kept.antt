@@ -10,7 +10,6 @@ use lib.Seq.{get_or-set_same, get_or-set_other}
 use lib.Dec.{eqb}
 use borrow.Author.Tests.{eqb-true, ne_eqb, eq-eqb}
 use Rattle.table.specs.Sum.{pick}
-use Rattle.table.specs.declared.kinds.Kind.TheVariants.{Free as free}
 use Rattle.schedule.specs.declared.Worker.{Worker}
 use Rattle.schedule.specs.Memory.{count_in}
 use Rattle.schedule.specs.Machine.{ready, held, nobody}

@@ -1,6 +1,6 @@
 -- Rows of threads cut into lines: what the walk along a row says of the lines, and back.
 use mathlib.Core.Path.{◌≡◌, refl, ap, ◌∙◌}
-use Prim.Native.Nat.{ℕ, ◌+◌}
+use Prim.Native.Nat.{ℕ}
 use mathlib.Core.List.Memᴰ
 use mathlib.Core.List.{List, [], ◌∷◌, ◌++◌, map, flatten, Memᴰ}
 use mathlib.Core.Bool.{Bool, true, false}

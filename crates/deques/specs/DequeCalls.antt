@@ -1,5 +1,5 @@
 -- Lists of calls of DFDeques, the record that they leave and the row of pairs that they lay end to end.
-use Rattle.std.specs.Prelude.{ℕ, zero, suc, ◌+◌, List, [], ◌∷◌, ◌++◌, Err, Ok, Result}
+use Rattle.std.specs.Prelude.{ℕ, zero, suc, List, [], ◌∷◌, ◌++◌, Err, Ok, Result}
 use Rattle.schedule.specs.declared.Reply.{Reply}
 use Rattle.table.specs.declared.Refusal.{Refusal}
 use Rattle.table.specs.Format.{Table}

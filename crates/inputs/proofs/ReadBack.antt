@@ -16,7 +16,8 @@ use Rattle.assembly.specs.Words.{is_digit, zero_led, same, lines_of, words_of}
 use Rattle.text.specs.Text.{ascii}
 use Rattle.assembly.specs.Said.{saids}
 use Rattle.assembly.specs.Assembly.{table_bytes, over, assembled, assembled_in}
-use Rattle.inputs.specs.Number.{next_value, value_from, number_in, figure_by, figure_of}
+use Rattle.assembly.specs.Upto.{next_value, value_from, number_in}
+use Rattle.inputs.specs.Number.{figure_by, figure_of}
 use Rattle.assembly.specs.Unseen.{after_lines}
 use Rattle.inputs.specs.Front.{Front, nothing, workers, quota, between, turns, rounds, board, Step, goes, stops, ends, Order, listed, broken, max_order, most8, most24, most32, most64, added_by, added, onward_order, order_from, given_to, ordered_to, step_with, step_of, Fronted, whole, fault, at_end, onward, front_from, front_of}
 use Rattle.inputs.specs.Input.{front_texts, input_bytes, made, made_in}

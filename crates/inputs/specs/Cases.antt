@@ -4,7 +4,8 @@ use mathlib.Core.List.{List, [], ◌∷◌, ◌++◌, flatten}
 use Rattle.text.specs.Text.{ascii}
 use Rattle.assembly.specs.Words.{span_of, parts, nonempty, same}
 use Rattle.assembly.specs.Cases.{text_of_e}
-use Rattle.inputs.specs.Number.{value_from, number_in, figure_of}
+use Rattle.assembly.specs.Upto.{value_from, number_in}
+use Rattle.inputs.specs.Number.{figure_of}
 use Rattle.assembly.specs.Unseen.{after_lines}
 use Rattle.inputs.specs.Front.{turns, rounds, board, added, order_from, step_with, front_from, front_of, whole, fault}
 use Rattle.inputs.specs.Input.{front_texts, front_bytes}

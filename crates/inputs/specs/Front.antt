@@ -3,7 +3,8 @@ use Rattle.std.specs.Prelude.{ℕ, suc, List, [], ◌∷◌, ◌++◌, ltb, leng
 use Rattle.table.specs.Sum.{pick}
 use Rattle.text.specs.Text.{ascii}
 use Rattle.assembly.specs.Words.{lines_of, words_of, same}
-use Rattle.inputs.specs.Number.{number_in, figure_of}
+use Rattle.assembly.specs.Upto.{number_in}
+use Rattle.inputs.specs.Number.{figure_of}
 use Rattle.inputs.specs.declared.Wanted.{Wanted}
 use Rattle.inputs.specs.declared.Wanted.TheVariants.{Workers, QuotaOrBetween, OrderOrLimit, Memory, Number as NumberTo, FewerWorkers}
 

@@ -5,8 +5,7 @@ ghost use Rattle.inputs.specs.Front.{added, order_from};
 ghost use Rattle.inputs.specs.Code.Steps.{Room, Ordering};
 
 use crate::Wanted;
-use crate::number::read_number;
-use assembly::word::first_word;
+use assembly::word::{first_word, read_number};
 
 // One worker more, after n.
 fn add_worker(w: &[u8], order: &mut [u8], n: usize) -> Result<usize, Wanted>
@@ -26,7 +25,7 @@ fn add_worker(w: &[u8], order: &mut [u8], n: usize) -> Result<usize, Wanted>
     }
 }
 
-// The workers on a line after `order`, after n.
+// The workers on a line after `order`, after n: word by word, without an index that is counted. The order lies in a buffer with its count, since there is no heap.
 pub(crate) fn order_line(rest: &[u8], order: &mut [u8], n: usize) -> Result<usize, Wanted>
     requires { Room order.old n }
     ensures { Ordering result order.new (order_from (take n order.old) (words_in rest.now)) }
@@ -41,13 +40,7 @@ pub(crate) fn order_line(rest: &[u8], order: &mut [u8], n: usize) -> Result<usiz
         if start == end {
             return Ok(n);
         }
-        let ordered = add_worker(&part[start..end], order, n);
-        match ordered {
-            Err(e) => return Err(e),
-            Ok(k) => {
-                n = k;
-            }
-        }
+        n = add_worker(&part[start..end], order, n)?;
         at += end;
     }
     Ok(n)

@@ -7,7 +7,7 @@ use native.Mathlib.Decide.{dec_lt}
 use mathlib.Core.List.Memᴰ
 use mathlib.Core.List.{List, [], ◌∷◌, Memᴰ}
 use mathlib.Core.Bool.{Bool, true, false}
-use Rattle.table.specs.Sum.{sum_over, greatest_to}
+use Rattle.table.specs.Sum.{sum_over}
 use Rattle.table.specs.Format.{is, Table, kind}
 use Rattle.table.specs.declared.kinds.Kind.TheVariants.{End as end, Fork as fork, Join as join}
 use Rattle.table.specs.Checks.{open_before, owner}

@@ -1,6 +1,6 @@
 -- Resting places: where every live thread that nobody holds stands at one, held is within the peak over resting places and R for each worker.
 use mathlib.Core.Path.{◌≡◌, refl}
-use Prim.Native.Nat.{ℕ, zero, suc, ◌+◌, ◌-◌, ◌*◌, ◌≤◌, ◌<◌}
+use Prim.Native.Nat.{ℕ, zero, suc, ◌+◌, ◌*◌, ◌≤◌, ◌<◌}
 use native.Mathlib.Omega.{arith}
 use native.Mathlib.Nat.{add-suc, mul_comm, mul-le-mul_left}
 use native.Mathlib.Decide.{ℕ_discrete}

@@ -5,7 +5,7 @@ use native.Mathlib.Omega.{arith}
 use native.Mathlib.Nat.{add-suc, add-zero}
 use mathlib.Core.Bool.{Bool, true, false}
 use Rattle.table.specs.Sum.{pick, sum_to, sum_over, greatest_to}
-use Rattle.table.specs.Format.{code_of, is, Table, kind}
+use Rattle.table.specs.Format.{is, Table, kind}
 use Rattle.table.specs.declared.kinds.Kind.TheVariants.{End as end, Fork as fork, Join as join}
 use Rattle.table.specs.Checks.{alloc_of, free_of, open_before}
 use Rattle.table.proofs.Tests.{is_true, or_neither}

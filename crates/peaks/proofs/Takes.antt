@@ -11,12 +11,11 @@ use mathlib.Core.Logic.{◌⊎◌, inl, inr}
 use lib.ListN.{get_or}
 use lib.Dec.{ltb, eqb}
 use borrow.Author.Tests.{lt-ltb, le-ltb, ltb-true, eqb-false, eq-eqb, ne_eqb}
-use Rattle.table.specs.Sum.{pick, sum_to, sum_over}
+use Rattle.table.specs.Sum.{pick, sum_over}
 use Rattle.table.specs.Format.{Table, kind}
 use Rattle.table.specs.declared.kinds.Kind.TheVariants.{Fork as fork, Join as join}
 use Rattle.table.specs.Checks.{owner, end_of, open_before}
 use Rattle.table.proofs.Tests.{no_way, fork_no_end}
-use Rattle.table.proofs.Sums.{sum_to_le}
 use Rattle.table.proofs.Bodies.{end_within, owner_at, owner_of_end, owner_first, owner_end, owner_below_lem, fork_above, fork_below_lem, join_above, next_owner}
 use Rattle.table.proofs.Nesting.{open_first, open_join, open_forked, fork_found, fork_exists}
 use Rattle.table.proofs.Amounts.{action_within}

@@ -9,7 +9,7 @@ use Rattle.table.specs.Sum.{pick}
 use Rattle.table.specs.Format.{code_of, is, Table, kind}
 use Rattle.table.specs.declared.kinds.Kind.TheVariants.{End as end, Alloc as alloc, Fork as fork, Join as join}
 use Rattle.table.specs.Checks.{end_of, alloc_of}
-use Rattle.table.proofs.Tests.{no_way, and_both}
+use Rattle.table.proofs.Tests.{and_both}
 use Rattle.table.proofs.Bodies.{after_end, end_kind}
 use Rattle.order.proofs.Lawful.{Lawful}
 use Rattle.peaks.specs.Rests.{drawn_at, drawn_before, stretch, rests}

@@ -4,7 +4,7 @@ use mathlib.Core.Path.{◌≡◌, refl}
 use Prim.Native.Nat.{ℕ, ◌-◌, ◌≤◌, ◌<◌}
 use native.Mathlib.Omega.{arith}
 use native.Mathlib.Decide.{ℕ_discrete}
-use mathlib.Core.List.{List, ◌++◌}
+use mathlib.Core.List.{List}
 use mathlib.Core.Bool.{Bool, true, false, not, ◌&&◌}
 use lib.Dec.{eqb}
 use borrow.Author.Tests.{not-true, eqb-false, eq-eqb}
@@ -12,16 +12,15 @@ use Rattle.table.specs.Sum.{pick}
 use Rattle.table.specs.Format.{Table}
 use Rattle.table.proofs.Tests.{no_way, and_both}
 use Rattle.table.proofs.Sums.{sum_to_le}
-use Rattle.table.proofs.Levels.{greatest_bound}
 use Rattle.schedule.specs.Machine.{State, unborn, held, ended, status_of, next_of}
 use Rattle.schedule.specs.Begin.{start_state}
-use Rattle.schedule.specs.Memory.{row_state, row_memory, front_rows, peak_memory}
+use Rattle.schedule.specs.Memory.{row_state, row_memory, peak_memory}
 use Rattle.schedule.specs.Sound.{live_in}
 use Rattle.order.specs.Words.{count_below}
 use Rattle.order.proofs.Lawful.{Lawful}
 use Rattle.order.proofs.Lists.{Below}
 use Rattle.schedule.proofs.Preservation.Starts.{start_facts}
-use Rattle.schedule.proofs.Runs.Rows.{front_rest, front_workers, row_facts, row_held}
+use Rattle.schedule.proofs.Runs.Rows.{front_workers, row_facts, row_held}
 use Rattle.schedule.proofs.Sound.Facts.{Facts}
 use Rattle.peaks.proofs.LoadLaw.{row_light}
 use Rattle.peaks.proofs.Unpreempted.{Stands}

@@ -34,7 +34,7 @@ use Rattle.workers.specs.Workers.{Workers, effect_in, after_event, MayCome}
 use Rattle.workers.specs.Workers.{work as work_event}
 use Rattle.workers.specs.LateFree.{LateEvent, turn, work, freed, Late, start_late, at_once, later, late_event, after_late, LateMayCome, LateOrderly, late_calls_of, free_in, owed_all}
 use Rattle.workers.proofs.Agreement.{Turns, Agrees, agrees_exact, drawn_whole, work_agrees}
-use Rattle.workers.proofs.RealMemory.{steady_exclusive, turned_table, taken_turn, turned_agrees, Joint, event_joint, exactly, start_joint}
+use Rattle.workers.proofs.RealMemory.{steady_exclusive, turned_table, turn_accepted, turned_agrees, Joint, event_joint, exactly, start_joint}
 
 -- ---- the statement
 
@@ -74,7 +74,7 @@ free_turns r h w t x q = go (try_at (turn_checks r w) 0) refl q
   where
     go : (f : Result ⊤ Refusal) → try_at (turn_checks r w) 0 ≡ f → effect_in (table_in r) (turned_as f r (passed_in r w) (step_run r w)).answer ≡ frees t x
         → Turns (table_in r) (frees t x) w (state_of r) (state_of (turned_as f r (passed_in r w) (step_run r w)).run)
-    go (Ok _) e i = let z : effect_of (table_in r) (step_run r w).reply ≡ frees t x = i in rw z at (taken_turn r h w e)
+    go (Ok _) e i = let z : effect_of (table_in r) (step_run r w).reply ≡ frees t x = i in rw z at (turn_accepted r h w e)
     go (Err y) e i = no_way (cc)
 
 -- ---- events

@@ -1,18 +1,21 @@
 -- What the code's inner functions require and promise.
-use Rattle.std.specs.Prelude.{ℕ, ◌≤◌, ◌<◌, ◌≡◌, List, ◌∷◌, Bool, true, false, length, drop}
+use Rattle.std.specs.Prelude.{ℕ, ◌≤◌, ◌<◌, ◌≡◌, List, ◌∷◌, Bool, true, false, length, drop, Option, Some}
 use Rattle.table.specs.Sum.{sum_to}
 use Rattle.table.specs.Format.{threads_of, actions_of, table_of}
-use Rattle.assembly.specs.Words.{no_number, number_in}
+use Rattle.assembly.specs.Words.{no_number}
+use Rattle.assembly.specs.Upto.{number_in}
 use Rattle.assembly.specs.Said.{saids}
 use Rattle.assembly.specs.Assembly.{is_thread, is_action, body_count, longest_text, checked}
 use Rattle.assembly.specs.Unseen.{after_lines}
 use Rattle.assembly.specs.declared.Said.{Said}
-use Rattle.assembly.specs.declared.check.Checked.TheVariants.{WellFormed}
 use Rattle.assembly.specs.declared.line.Line.{Line}
+use Rattle.std.specs.Prelude.{Ok}
+use Rattle.assembly.specs.Assembly.{counts_of}
 
-pub record Valued (w : List ℕ) (r : ℕ) : Type 0 where
-  pub value : r ≡ number_in w
-  pub small : r ≤ no_number
+-- a word's number, and its bound
+pub record Numbered (most : ℕ) (w : List ℕ) (r : Option ℕ) : Type 0 where
+  pub value : r ≡ number_in most w
+  pub small : (x : ℕ) → r ≡ Some x → x ≤ most
 
 -- the line that begins at a position, and where the next one begins
 pub record Reads (s : List ℕ) (at : ℕ) (r : Line) : Type 0 where
@@ -37,7 +40,7 @@ pub record CountsBody (s : List ℕ) (at r : ℕ) : Type 0 where
 -- a well-formed text's counts
 pub record Sized (s : List ℕ) (n m : ℕ) : Type 0 where
   pub short : length s ≤ longest_text
-  pub counts : checked (saids s) ≡ WellFormed n m
+  pub counts : checked (saids s) ≡ Ok (counts_of n m)
 
 -- a word and a number that make a line of at most 15 bytes
 pub record Operand (w : List ℕ) (x : ℕ) : Type 0 where

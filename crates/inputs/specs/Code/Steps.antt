@@ -4,7 +4,6 @@ use Rattle.inputs.specs.declared.Wanted.{Wanted}
 use Rattle.assembly.specs.Words.{span_of, in_class}
 use Rattle.assembly.specs.Assembly.{longest_text}
 use Rattle.assembly.specs.declared.scan.Class.TheVariants.{Line}
-use Rattle.inputs.specs.Number.{number_in}
 use Rattle.assembly.specs.Unseen.{after_lines}
 use Rattle.inputs.specs.Front.{Front, nothing, workers, quota, between, turns, rounds, board, Step, goes, stops, ends, Order, listed, broken, max_order, Fronted, whole, fault, at_end, front_of}
 use Rattle.inputs.specs.declared.front.Front.{Front as Kept}
@@ -12,11 +11,6 @@ use Rattle.inputs.specs.declared.front.Front.TheVariants.{Nothing, Workers, Quot
 use Rattle.inputs.specs.declared.front.Step.{Step as Taken}
 use Rattle.inputs.specs.declared.front.Step.TheVariants.{Goes, Ends}
 use Rattle.inputs.specs.declared.read.Read.{Read}
-
--- a word's number, and its bound
-pub record Numbered (most : ℕ) (w : List ℕ) (r : Option ℕ) : Type 0 where
-  pub value : r ≡ number_in most w
-  pub small : (x : ℕ) → r ≡ Some x → x ≤ most
 
 -- ---- what the code keeps, with the order's bytes in a buffer
 

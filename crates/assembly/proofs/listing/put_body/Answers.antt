@@ -50,7 +50,7 @@ pub put_number-at-requires : goal.put_number-at-requires
 put_number-at-requires c = omega (arith, c.requires.1, c.requires.2, c.loop-i.invariant.within)
 
 pub loop-i-preserved : goal.loop-i-preserved
-loop-i-preserved c = again _ _ _ _ _ _ _ _ c.loop-i.invariant c.loop-i-test.true c.requires.0 c.code.ensures c.argument.ensures.value (search rules) c.put_action-at.ensures (search rules) c.put_number-at.ensures
+loop-i-preserved c = again _ _ _ _ _ _ _ _ c.loop-i.invariant c.loop-i-test.true c.requires.0 refl c.argument.ensures.value (search rules) (rw c.kind.ensures at c.put_action-at.ensures) (search rules) c.put_number-at.ensures
 
 pub shape_of-out : goal.shape_of-out
 shape_of-out c = omega (arith, c.loop-i.invariant.long)

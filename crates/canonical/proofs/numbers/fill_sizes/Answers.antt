@@ -37,9 +37,6 @@ module _ (s : List ℕ) (n : ℕ) (actions sizes : List ℕ) (t : ℕ) (v : Inv 
 pub loop-t-init : goal.loop-t-init
 loop-t-init c = begin c.args.table.now c.args.n c.args.actions.now c.requires
 
-pub overflow_sub-t : goal.overflow_sub-t
-overflow_sub-t c = omega arith
-
 pub forked_sizes-total-requires : goal.forked_sizes-total-requires
 forked_sizes-total-requires c = (c.loop-t.invariant.sized, record { first_small = c.first.ensures.small; count_small = c.count.ensures.small })
 
@@ -48,9 +45,6 @@ overflow_add-total c = omega (arith, c.forked_sizes-total.ensures.small)
 
 pub put_number-requires : goal.put_number-requires
 put_number-requires c = c.loop-t.invariant.sized
-
-pub loop-t-smaller : goal.loop-t-smaller
-loop-t-smaller c = omega arith
 
 pub loop-t-preserved : goal.loop-t-preserved
 loop-t-preserved c =

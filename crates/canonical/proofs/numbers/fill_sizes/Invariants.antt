@@ -17,6 +17,3 @@ pub record Inv (s : List ℕ) (n : ℕ) (actions sizes : List ℕ) (t : ℕ) : T
 
 abbrev pub invariant-loop-t : goal.invariant-loop-t
 invariant-loop-t l = Inv l.table l.n l.actions l.sizes l.t
-
-abbrev pub decreases-loop-t : goal.decreases-loop-t
-decreases-loop-t l = l.t

@@ -44,7 +44,7 @@ pub loop-i-preserved : goal.loop-i-preserved
 loop-i-preserved c =
     let d = c.args in
     again d.actions.now d.first d.count d.sizes.now c.loop-i.total c.loop-i.i c.loop-i.invariant c.loop-i-test.true
-    c.action_in-action.result.code c.action_in-action.result.argument c.fork_size-total.result c.action_in-action.ensures.code_value c.action_in-action.ensures.read.value c.fork_size-total.ensures
+    c.action_in-action.result.code c.action_in-action.result.argument c.fork_size-total.result c.action_in-action.ensures.code_value c.action_in-action.ensures.read.value (rw c.kind.ensures at c.fork_size-total.ensures)
 
 pub returns : goal.returns
 returns c =

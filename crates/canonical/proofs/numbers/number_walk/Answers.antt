@@ -61,7 +61,7 @@ pub loop-i-preserved : goal.loop-i-preserved
 loop-i-preserved c =
     let d = c.args in
     again d.actions.now d.first d.count d.start d.sizes.now d.new.now c.loop-i.new c.loop-i.next c.loop-i.i c.loop-i.invariant c.loop-i-test.true
-    c.action_in-action.result.code c.action_in-action.result.argument c.action_in-action.ensures.code_value c.action_in-action.ensures.read.value _ _ c.number_step-next.ensures
+    c.action_in-action.result.code c.action_in-action.result.argument c.action_in-action.ensures.code_value c.action_in-action.ensures.read.value _ _ (rw c.kind.ensures at c.number_step-next.ensures)
 
 pub returns : goal.returns
 returns c =

@@ -7,7 +7,8 @@ use mathlib.Core.List.{List}
 use lib.ListN.{length, take, drop}
 use Rattle.table.proofs.Parts.{rest_part}
 use Rattle.assembly.specs.Words.{words_in, FirstWord}
-use Rattle.inputs.specs.Number.{number_in, figure_last, figure_of}
+use Rattle.assembly.specs.Upto.{number_in}
+use Rattle.inputs.specs.Number.{figure_last, figure_of}
 use Rattle.inputs.specs.declared.Wanted.TheVariants.{Number as NumberTo}
 use Rattle.inputs.proofs.number.read_figure.Goals as goal
 

@@ -8,7 +8,7 @@ use mathlib.Core.List.{List}
 use borrow.Author.Tests.{lt-ltb, le-ltb}
 use lib.ListN.{length, take, set}
 use lib.Seq.{length-take-le, take-suc-set}
-use Rattle.inputs.specs.Number.{number_in}
+use Rattle.assembly.specs.Upto.{number_in}
 use Rattle.inputs.specs.Front.{most8, max_order, added}
 use Rattle.inputs.specs.Code.Steps.{Room, Ordering}
 use Rattle.inputs.specs.declared.Wanted.TheVariants.{Number as NumberTo, FewerWorkers}
