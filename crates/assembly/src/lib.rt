@@ -12,7 +12,6 @@ pub mod unseen;
 pub mod word;
 
 ghost use Rattle.std.specs.Prelude.{◌≡◌, length, replicate, Ok};
-ghost use Rattle.table.specs.Checks.{outside as is_outside};
 ghost use Rattle.table.specs.Format.{table_of};
 ghost use Rattle.assembly.specs.Said.{saids};
 ghost use Rattle.assembly.specs.Assembly.{assembled, assembled_in, answered, written_in, sizes_outside, over, bytes_by, or_short, kept_if_short, assembling, assembling_in};
@@ -24,8 +23,8 @@ pub use fault::{message, put_unseen};
 use listing::put_threads;
 use place::refused_at;
 use put::put_table;
-use table::Refusal;
 use table::read::{actions, threads};
+use table::{Refusal, outside};
 
 // What should have stood on a line: a keyword, a number of at most 24 bits, the line's end, or the next thread by its number.
 #[derive(Clone, Copy)]
@@ -80,7 +79,7 @@ pub fn assemble(text: &[u8], out: &mut [u8; 36868]) -> Result<usize, AssemblyErr
     }
 }
 
-// The same in a buffer of any length, which is as it was where the table does not fit, without recursion, in lent working memory, which may hold anything and is left cleared.
+// The same in a buffer of any length (C lends it and the four arrays), which is as it was where the table does not fit, without recursion, in lent working memory, which may hold anything and is left cleared.
 pub fn assemble_in(
     text: &[u8],
     out: &mut [u8],
@@ -121,12 +120,6 @@ fn assemble_on(
         Err(fault) => Ok(Err(AssemblyError::Malformed(fault.line, fault.expected))),
         Ok(counts) => write_table(text, counts, out, rises, falls, peaks, depths),
     }
-}
-
-fn outside(low: usize, high: usize, x: usize) -> bool
-    ensures { result ≡ is_outside low high x }
-{
-    x < low || high < x
 }
 
 // Check 2.

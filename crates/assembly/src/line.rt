@@ -11,6 +11,7 @@ use crate::{Expected, Said};
 // The largest number of a text, of 24 bits.
 const LARGEST: u64 = 16777215;
 
+// Loops over a text go from `next` to `next`: they count no index, and an iterator of lines would keep the same place.
 #[derive(Drop)]
 pub(crate) struct Line {
     pub(crate) said: Said,

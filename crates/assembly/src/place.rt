@@ -18,11 +18,7 @@ fn names_thread(number: u8) -> bool
 fn left_after(counts: bool, k: usize) -> usize
     ensures { result ≡ left_after counts k }
 {
-    if counts {
-        if k == 0 { 0 } else { k - 1 }
-    } else {
-        k
-    }
+    if counts { k.saturating_sub(1) } else { k }
 }
 
 // A line that counts, with none left to count before it.

@@ -28,13 +28,10 @@ fn in_class(class: Class, b: u8) -> bool
 pub fn span(s: &[u8], class: Class) -> usize
     ensures { Spans (in_class class) s.now result }
 {
-    let mut i = 0;
-    while i < s.len() {
-        if in_class(class, s[i]) {
-            i += 1;
-        } else {
+    for (i, b) in s.iter().enumerate() {
+        if !in_class(class, *b) {
             return i;
         }
     }
-    i
+    s.len()
 }

@@ -54,18 +54,11 @@ fn unseen_in(line: &[u8]) -> Unseen
     }
 }
 
-// How many lines stand before one that is counted from 1.
-fn lines_before(line: usize) -> usize
-    ensures { result ≡ line - 1 }
-{
-    if line == 0 { 0 } else { line - 1 }
-}
-
 // In a line of a text, counted from 1.
 pub fn unseen_at(text: &[u8], line: usize) -> Unseen
     ensures { result ≡ unseen_of text.now line }
 {
-    let at = after_lines(text, lines_before(line));
+    let at = after_lines(text, line.saturating_sub(1));
     let end = at + span(&text[at..], Class::Line);
     unseen_in(&text[at..end])
 }

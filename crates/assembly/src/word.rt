@@ -25,18 +25,10 @@ pub fn first_word(s: &[u8]) -> Word
 pub fn same(a: &[u8], b: &[u8]) -> bool
     ensures { result ≡ is_same a.now b.now }
 {
-    if a.len() != b.len() {
-        return false;
-    }
-    for i in 0..a.len() {
-        if a[i] != b[i] {
-            return false;
-        }
-    }
-    true
+    a == b
 }
 
-// A kind's code, 6 for `thread`, 7 for any other word.
+// A kind's code, 6 for `thread`, 7 for any other word: the numbers of `code_of_word`, on which the theorems about texts rest.
 pub(crate) fn keyword(w: &[u8]) -> u8
     ensures { result ≡ code_of_word w.now }
 {

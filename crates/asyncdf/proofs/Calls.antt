@@ -1,5 +1,5 @@
 -- A call by value on a record that passed check 32 is the call in the memory into which the record was packed: on a sound record by the law of refinement, and on the blank one at once.
-use Rattle.std.specs.Prelude.{Ok}
+use Rattle.std.specs.Prelude.{Err, Ok, Result}
 use Rattle.schedule.specs.Turn.{taken_turn}
 use mathlib.Core.Path.{◌≡◌, refl, sym, ap, ◌∙◌}
 use Prim.Native.Nat.{ℕ, ◌-◌, ◌^◌, ◌≤◌, ◌<◌}
@@ -28,10 +28,13 @@ use Rattle.schedule.specs.Parents.{Parents}
 use Rattle.schedule.proofs.Runs.Histories.{turn_refused}
 use Rattle.soundness.proofs.Passed.{has_workers, no_workers}
 use Rattle.array_machine.proofs.Answers.{refused_as, turned_none}
-use Rattle.run_memory.specs.Memory.{Memory, moved_in, Told, told, turn_in, passed_over}
+use Rattle.run_memory.specs.Memory.{Memory, moved_in, Told, told, turn_in, passed_over, number_in}
 use Rattle.run_memory.specs.Stands.{run_in}
 use Rattle.run_memory.specs.Packing.{memory_for, record_of}
-use Rattle.run_memory.specs.Runs.{Stopped, stopped, over_in, list_run_in, rounds_run_in, report_of}
+use Rattle.run_memory.specs.Runs.{Stopped, stopped, finished_in, over_in, list_run_in, rounds_run_in, report_of}
+use Rattle.asyncdf.specs.declared.Order.{Order}
+use Rattle.asyncdf.specs.declared.Order.TheVariants.{Listed, Rounds}
+use Rattle.asyncdf.specs.Orders.{run_as, stop_as, report_at}
 use Rattle.run_memory.proofs.Packed.{unmoved_back, table_room}
 use Rattle.run_memory.proofs.Refusals.{turn_number, list_number, rounds_number}
 use Rattle.run_memory.proofs.ByValue.{turn_value, turn_record, list_value, rounds_value, no_turn, no_list, no_rounds}
@@ -46,9 +49,9 @@ rounds_unsound : (r : Run) (limit : ℕ) → unsound r ≡ true → ran (Refused
 unfolding rounds_run
 rounds_unsound r limit e = rw e
 
-pub run_unsound : (r : Run) (l : List ℕ) (rounds : Bool) (limit : ℕ) → unsound r ≡ true → ran (Refused 0 (refusal 32 0)) r ≡ pick rounds (rounds_run r limit) (list_run r l)
-run_unsound r l true limit e = rounds_unsound r limit e
-run_unsound r l false limit e = list_unsound r l e
+pub run_unsound : (r : Run) (o : Order) → unsound r ≡ true → ran (Refused 0 (refusal 32 0)) r ≡ run_as r o
+run_unsound r (Listed l) e = list_unsound r l.now e
+run_unsound r (Rounds limit) e = rounds_unsound r limit e
 
 -- ---- the blank record
 
@@ -170,12 +173,15 @@ module _ (run : Run) (e : unsound run ≡ false) (parents : List ℕ) (right : S
       go (yes n) = ap value (f ∙ no_rounds s M (workers_none n) (turns_few n) limit) ∙ ap (ran (Refused 0 (refusal 30 0))) (same n) ∙ rounds_blank run e n limit
       go (no n) = rounds_value (sound_here n).steady parents m (right (sound_here n)) (fits n) limit f
 
-  pub run_taken : (l : List ℕ) (rounds : Bool) (limit : ℕ) {d : Stopped} → d ≡ pick rounds (rounds_run_in s limit M) (list_run_in s l M)
-      → value d ≡ pick rounds (rounds_run run limit) (list_run run l)
-  run_taken l true limit f = rounds_taken limit f
-  run_taken l false limit f = list_taken l f
+  pub run_taken : (o : Order) {d : Stopped} → d ≡ stop_as s o M → value d ≡ run_as run o
+  run_taken (Listed l) f = list_taken l.now f
+  run_taken (Rounds limit) f = rounds_taken limit f
 
 -- ---- an answer put together
+
+pub report_is : (f : Result Bool ℕ) (turns : ℕ) → ((n : ℕ) → f ≡ Err n → n ≡ 0 → ⊥) → report_at f turns ≡ report_of (number_in f) (finished_in f) turns
+report_is (Ok over) turns z = refl
+report_is (Err n) turns z = rw (ne_eqb n 0 (z n refl))
 
 pub ran_as : {x x' : Report} {r r' : Run} {y : Ran} → x ≡ x' → r ≡ r' → ran x' r' ≡ y → ran x r ≡ y
 ran_as e f g = (λ i. ran (e i) (f i)) ∙ g
@@ -184,10 +190,10 @@ ran_as e f g = (λ i. ran (e i) (f i)) ∙ g
 pub told_small : (s : List ℕ) (w : ℕ) (M : Memory) {number : ℕ} {reply : Reply} {M' : Memory} → told number reply M' ≡ turn_in s w M → number < 256
 told_small s w M e = omega (arith, ap (λ (x : Told). x.number) e, turn_number s w M)
 
-pub run_small : (s l : List ℕ) (rounds : Bool) (limit : ℕ) (M : Memory) {number turns : ℕ} {over : Bool} {M' : Memory}
-    → stopped number over turns M' ≡ pick rounds (rounds_run_in s limit M) (list_run_in s l M) → number < 256
-run_small s l true limit M e = omega (arith, ap (λ (x : Stopped). x.number) e, rounds_number s limit M)
-run_small s l false limit M e = omega (arith, ap (λ (x : Stopped). x.number) e, list_number s l M)
+pub run_small : (s : List ℕ) (o : Order) (M : Memory) {number turns : ℕ} {over : Bool} {M' : Memory}
+    → stopped number over turns M' ≡ stop_as s o M → number < 256
+run_small s (Listed l) M e = omega (arith, ap (λ (x : Stopped). x.number) e, list_number s l.now M)
+run_small s (Rounds limit) M e = omega (arith, ap (λ (x : Stopped). x.number) e, rounds_number s limit M)
 
 -- ---- the values of an answer that is the definition's
 

@@ -2,9 +2,8 @@
 // pack the record into the blocks of crates/run_memory, take their turns there, and read it back.
 #![tactic(auto)]
 
-ghost use Rattle.std.specs.Prelude.{◌≡◌, Err};
+ghost use Rattle.std.specs.Prelude.{◌≡◌, ◌<◌, ℕ, Err};
 ghost use Rattle.std.specs.Int.Count.{ones};
-ghost use Rattle.table.specs.Sum.{pick};
 ghost use Rattle.table.specs.Pass.{refusal};
 ghost use Rattle.schedule.specs.declared.Report.TheVariants.{Refused as Stopped};
 ghost use Rattle.schedule.specs.Answers.{beginning_values, turning_values, report_values};
@@ -17,13 +16,15 @@ ghost use Rattle.order.specs.Words.{count_below};
 ghost use Rattle.schedule.specs.Turn.{turned as turned_of};
 ghost use Rattle.schedule.specs.Runs.{ran, list_run, rounds_run};
 ghost use Rattle.run_memory.specs.Blocks.{memory_of};
-ghost use Rattle.run_memory.specs.Runs.{stopped, list_run_in, rounds_run_in, report_of};
+ghost use Rattle.run_memory.specs.Memory.{number_in};
+ghost use Rattle.run_memory.specs.Runs.{stopped_at};
+ghost use Rattle.asyncdf.specs.Orders.{run_as, stop_as, report_at};
 
 use crate::beginning::{blank, start};
 use run_memory::packing::{pack, unpack};
 use run_memory::runs::{Stop, list_in, rounds_in};
 use run_memory::turn_in;
-use schedule::{Begun, Ran, Report, Run, Taken, Turned};
+use schedule::{Begun, Ran, Report, Run, Turned};
 use soundness::{accept, test};
 use table::Refusal;
 
@@ -37,15 +38,16 @@ pub fn begin(bytes: &[u8], p: u8, quota: u32) -> Begun
     let mut next = [0u16; 1024];
     let mut parents = [0u16; 1024];
     let mut filled = [0u8; 36868];
-    let filling = accept(bytes, p, quota, &mut filled[..], &mut next, &mut parents);
-    let found = filling.found;
-    if let Err(x) = found {
-        return Begun {
-            answer: Err(x),
-            run: blank(),
-        };
-    }
-    let k = filling.bytes;
+    let accepted = accept(bytes, p, quota, &mut filled[..], &mut next, &mut parents);
+    let k = match accepted {
+        Err(x) => {
+            return Begun {
+                answer: Err(x),
+                run: blank(),
+            };
+        }
+        Ok(k) => k,
+    };
     if k == 0 {
         return Begun {
             answer: Ok(()),
@@ -99,16 +101,12 @@ pub fn turn(run: Run, w: u8) -> Turned
         &mut numbers,
         &mut sums,
     );
-    if spoken.number != 0 {
-        return refused(spoken.number as u8, run);
-    }
-    let after = unpack(run, &bytes, &words, &numbers, &sums);
-    Turned {
-        answer: Ok(Taken {
-            reply: spoken.reply,
-            passed: spoken.passed,
-        }),
-        run: after,
+    match spoken {
+        Err(number) => refused(number as u8, run),
+        Ok(taken) => Turned {
+            answer: Ok(taken),
+            run: unpack(run, &bytes, &words, &numbers, &sums),
+        },
     }
 }
 
@@ -128,44 +126,50 @@ fn unsound(run: Run) -> Ran
     }
 }
 
-// The report of a run that stopped: a refusal's number, 0 where there is none; whether at the root's end; the turns that it took.
-pub fn report_of(number: u8, finished: bool, turns: u64) -> Report
-    ensures { result ≡ report_of number finished turns }
+// The report of a run that stopped: whether at the root's end, or a refusal's number; and the turns that it took.
+pub fn report_of(finished: Result<bool, u32>, turns: u64) -> Report
+    requires { number_in finished < 256 }
+    ensures { result ≡ report_at finished turns }
 {
-    if number != 0 {
-        return Report::Refused(turns, Refusal { number, place: 0 });
-    }
-    if finished {
-        Report::Finished(turns)
-    } else {
-        Report::Spent(turns)
+    match finished {
+        Ok(true) => Report::Finished(turns),
+        Ok(false) => Report::Spent(turns),
+        Err(number) => {
+            let number = number as u8;
+            Report::Refused(turns, Refusal { number, place: 0 })
+        }
     }
 }
 
-// A run in the blocks, over the order or in rounds.
+// Whose turns a run takes: of the workers of a list, or of each in rounds, of at most so many turns.
+#[derive(Clone, Copy)]
+enum Order<'a> {
+    Listed(&'a [u8]),
+    Rounds(u32),
+}
+
+// A run in the blocks.
 fn stop_in(
     table: &[u8],
-    order: &[u8],
-    rounds: bool,
-    limit: u32,
+    order: Order,
     bytes: &mut [u8; 1040],
     words: &mut [u16; 6163],
     numbers: &mut [u32; 18],
     sums: &mut [u64; 1027],
 ) -> Stop
-    ensures { stopped result.number result.finished result.turns (memory_of bytes.new words.new numbers.new sums.new)
-        ≡ pick rounds (rounds_run_in table.now limit (memory_of bytes.old words.old numbers.old sums.old))
-        (list_run_in table.now order.now (memory_of bytes.old words.old numbers.old sums.old)) }
+    ensures nonzero { (n : ℕ) → result.finished ≡ Err n → n ≡ 0 → ⊥ }
+    ensures run_value { stopped_at result (memory_of bytes.new words.new numbers.new sums.new)
+        ≡ stop_as table.now order.entry (memory_of bytes.old words.old numbers.old sums.old) }
 {
-    if rounds {
-        return rounds_in(table, limit, bytes, words, numbers, sums);
+    match order {
+        Order::Listed(list) => list_in(table, list, bytes, words, numbers, sums),
+        Order::Rounds(limit) => rounds_in(table, limit, bytes, words, numbers, sums),
     }
-    list_in(table, order, bytes, words, numbers, sums)
 }
 
-// A run over the order, or in rounds of at most `limit` turns.
-fn run_by(run: Run, order: &[u8], rounds: bool, limit: u32) -> Ran
-    ensures { result ≡ pick rounds (rounds_run run limit) (list_run run order.now) }
+// A run over a list or in rounds.
+fn run_by(run: Run, order: Order) -> Ran
+    ensures { result ≡ run_as run order.entry }
 {
     let Some(parents) = test(run) else {
         return unsound(run);
@@ -188,14 +192,12 @@ fn run_by(run: Run, order: &[u8], rounds: bool, limit: u32) -> Ran
     let stop = stop_in(
         table,
         order,
-        rounds,
-        limit,
         &mut bytes,
         &mut words,
         &mut numbers,
         &mut sums,
     );
-    let report = report_of(stop.number as u8, stop.finished, stop.turns);
+    let report = report_of(stop.finished, stop.turns);
     let after = unpack(run, &bytes, &words, &numbers, &sums);
     Ran { report, run: after }
 }
@@ -205,7 +207,7 @@ pub fn run_list(run: Run, order: &[u8]) -> Ran
     ensures value { result ≡ list_run run order.now }
     ensures report_value { report_values result.report ≡ list_values run order.now }
 {
-    run_by(run, order, false, 0)
+    run_by(run, Order::Listed(order))
 }
 
 // A run in rounds, of at most `limit` turns.
@@ -213,7 +215,7 @@ pub fn run_rounds(run: Run, limit: u32) -> Ran
     ensures value { result ≡ rounds_run run limit }
     ensures report_value { report_values result.report ≡ rounds_values run limit }
 {
-    run_by(run, b"", true, limit)
+    run_by(run, Order::Rounds(limit))
 }
 
 // The number busy: of a record that is sound, turns taken apart, the workers that hold a thread.

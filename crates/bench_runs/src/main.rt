@@ -88,10 +88,8 @@ fn once(mode: u8, run: Run, limit: u32, bytes: &[u8], total: u64) -> u64 {
 
 fn repeated(mode: u8, count: u32, run: Run, limit: u32, bytes: &[u8]) -> u64 {
     let mut total: u64 = 0;
-    let mut left = count;
-    while 0 < left {
+    for _ in 0..count {
         total = std::num::wrapping_add_u64(total, once(mode, run, limit, bytes, total));
-        left -= 1;
     }
     total
 }

@@ -9,7 +9,6 @@ ghost use Rattle.io.specs.Counts.{IsPrefixLen};
 
 use pace::kept;
 use pacing::Pace;
-use preview::Previewed;
 use schedule::{Reply, Report, Run, Taken, Worker};
 use std::io;
 use std::io::Write;
@@ -53,7 +52,7 @@ fn eight_bytes(rt: &HostRuntime) -> io::Result<u64> {
 fn within(k: usize, buffer: &[u8]) -> usize
     ensures { IsPrefixLen result buffer.now }
 {
-    if k <= buffer.len() { k } else { buffer.len() }
+    k.min(buffer.len())
 }
 
 // ---- what is printed
@@ -142,8 +141,8 @@ fn mix_thread(before: u64, next: u16, status: u8, amount: u64, left: u16, right:
 
 fn mix_table(before: u64, table: &[u8; 36868]) -> u64 {
     let mut sum = before;
-    for i in 0..36868 {
-        sum = mix_byte(sum, table[i]);
+    for x in table {
+        sum = mix_byte(sum, *x);
     }
     sum
 }
@@ -170,8 +169,8 @@ fn mix_worker(before: u64, x: Worker) -> u64 {
 
 fn mix_workers(before: u64, workers: [Worker; 16]) -> u64 {
     let mut sum = before;
-    for w in 0..16 {
-        sum = mix_worker(sum, workers[w]);
+    for x in workers {
+        sum = mix_worker(sum, x);
     }
     sum
 }
@@ -319,23 +318,16 @@ fn call_turn(rt: &HostRuntime, run: Run) -> io::Result<Run> {
 }
 
 fn call_preview(rt: &HostRuntime, run: Run) -> io::Result<Run> {
-    let shown = preview::preview(run, one_byte(rt)?);
-    match shown {
-        Previewed::Would {
-            reply,
-            passed,
-            held,
-            highest,
-            quota,
-        } => {
+    match preview::preview(run, one_byte(rt)?) {
+        Ok(foreseen) => {
             say(rt, b"would ")?;
-            tell_reply(rt, reply)?;
-            tell(rt, b" passed ", passed as u64)?;
-            tell(rt, b" held ", held)?;
-            tell(rt, b" highest ", highest)?;
-            tell(rt, b" quota ", quota as u64)?;
+            tell_reply(rt, foreseen.reply)?;
+            tell(rt, b" passed ", foreseen.passed as u64)?;
+            tell(rt, b" held ", foreseen.held)?;
+            tell(rt, b" highest ", foreseen.highest)?;
+            tell(rt, b" quota ", foreseen.quota as u64)?;
         }
-        Previewed::Refused(x) => {
+        Err(x) => {
             say(rt, b"refused")?;
             tell_refusal(rt, x)?;
         }
@@ -433,8 +425,8 @@ struct Beside {
 
 fn mix_pace(numbers: &[u32; 260]) -> u64 {
     let mut sum = 0;
-    for i in 0..260 {
-        sum = mix_number(sum, numbers[i]);
+    for x in numbers {
+        sum = mix_number(sum, *x);
     }
     sum
 }
@@ -505,8 +497,7 @@ fn call_beside(rt: &HostRuntime, sort: u8, run: Run, pace: Pace) -> io::Result<B
 fn calls(rt: &HostRuntime, begun: Run) -> io::Result<()> {
     let mut run = begun;
     let mut pace = Pace { numbers: [0; 260] };
-    let mut left: u32 = 1000;
-    while 0 < left {
+    for _ in 0..1000 {
         let sort = one_byte(rt)?;
         if sort == 0 {
             return Ok(());
@@ -515,7 +506,6 @@ fn calls(rt: &HostRuntime, begun: Run) -> io::Result<()> {
         run = after.run;
         pace = after.pace;
         tell_run(rt, run)?;
-        left -= 1;
     }
     Ok(())
 }
@@ -558,9 +548,10 @@ fn one(rt: &HostRuntime) -> io::Result<bool> {
 }
 
 fn main(rt: HostRuntime) -> io::Result<()> {
-    let mut left: u32 = 1000;
-    while 0 < left && one(&rt)? {
-        left -= 1;
+    for _ in 0..1000 {
+        if !one(&rt)? {
+            return Ok(());
+        }
     }
     Ok(())
 }

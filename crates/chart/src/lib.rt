@@ -22,16 +22,10 @@ pub fn wall_line(run: Run, out: &mut [u8; 85]) -> Result<(), Refusal>
     ensures out_after { out.new ≡ charted_in (charted run) run out.old }
 {
     let Some(_) = test(run) else {
-        return Err(Refusal {
-            number: 32,
-            place: 0,
-        });
+        return Err(Refusal::new(32, 0));
     };
     if MOST_TURNS < run.turns {
-        return Err(Refusal {
-            number: 43,
-            place: 0,
-        });
+        return Err(Refusal::new(43, 0));
     }
     let workers = run.worker;
     put_line(out, 0, run.turns, run.workers, workers, run.held);

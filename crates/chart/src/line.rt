@@ -1,18 +1,11 @@
 // A line of the chart, put into a lent buffer from its numbers: turns taken, the workers, memory held.
-ghost use Rattle.std.specs.Prelude.{◌≡◌, ◌-◌, ◌≤◌};
+ghost use Rattle.std.specs.Prelude.{◌≡◌, ◌≤◌};
 ghost use Rattle.text.specs.Text.{buffer_at};
 ghost use Rattle.text.specs.Puts.{put_all};
 ghost use Rattle.chart.specs.Chart.{cell_of, cells_from, figures_of, right_texts, cell_texts, cells_texts, line_texts};
 
 use schedule::Worker;
 use text::{put_number, put_word};
-
-// What k characters leave of a width.
-fn room(width: usize, k: usize) -> usize
-    ensures { result ≡ width - k }
-{
-    if k < width { width - k } else { 0 }
-}
 
 // A number, right-aligned in a width.
 fn put_right(out: &mut [u8], at: usize, width: usize, n: u64) -> usize
@@ -22,7 +15,7 @@ fn put_right(out: &mut [u8], at: usize, width: usize, n: u64) -> usize
     let blanks = [32u8; 14];
     let mut digits = [0u8; 20];
     let k = put_number(&mut digits, 0, n);
-    let pad = room(width, k);
+    let pad = width.saturating_sub(k);
     let at = put_word(out, at, &blanks[..pad]);
     put_word(out, at, &digits[..k])
 }
@@ -45,9 +38,8 @@ fn put_cells(out: &mut [u8], at: usize, p: usize, workers: [Worker; 16]) -> usiz
     ensures { buffer_at out.new result ≡ put_all (buffer_at out.old at) (cells_texts (cells_from p 0 workers)) }
 {
     let mut at = at;
-    for w in 0..16 {
-        let worker = workers[w];
-        at = put_cell(out, at, p, w, worker);
+    for (w, worker) in workers.iter().enumerate() {
+        at = put_cell(out, at, p, w, *worker);
     }
     at
 }

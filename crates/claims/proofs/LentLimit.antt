@@ -76,7 +76,7 @@ start_run_lem s p K = is_start s p K refl refl
 numbered : (f : Result ⊤ Refusal) (short : Bool) (bytes : ℕ) (M : Memory) → Numbered f → (lent_begun_as f short bytes M).number ≡ 0 → (f ≡ Ok tt) × (short ≡ false)
 numbered (Ok _) true bytes M h e = absurd (omega (arith, e))
 numbered (Ok _) false bytes M h e = (refl, refl)
-numbered (Err x) short bytes M h e = let z : Err x ≡ (Ok tt) = h e in no_way (cc)
+numbered (Err x) short bytes M h e = let z : ◌≡◌ {A = Result ⊤ Refusal} (Err x) (Ok tt) = h e in no_way (cc)
 
 module _ (s : List ℕ) (p K room : ℕ) where
   abbrev F : List ℕ
@@ -135,7 +135,7 @@ module _ (s : List ℕ) (p K room : ℕ) where
 -- a turn was taken where it was not refused
 found_row : (f : Result ⊤ Refusal) → Numbered f → (r : Run) (k : ℕ) (d : Stepped) (w : ℕ) → pick (eqb (found_number f) 0) (w ∷ []) [] ≡ turn_row (turned_as f r k d).answer w
 found_row (Ok _) h r k d w = refl
-found_row (Err x) h r k d w = rw (ne_eqb x.number 0 (λ e. let z : Err x ≡ (Ok tt) = h e in no_way (cc)))
+found_row (Err x) h r k d w = rw (ne_eqb x.number 0 (λ e. let z : ◌≡◌ {A = Result ⊤ Refusal} (Err x) (Ok tt) = h e in no_way (cc)))
 
 turned_row : (r : Run) (w : ℕ) → pick (eqb (turn_values r w).number 0) (w ∷ []) [] ≡ turn_row (turned r w).answer w
 unfolding turned turn_values

@@ -145,32 +145,27 @@ pub data MarkHistory : Run → Marks → Led ℕ → List MarkCall → List Mark
 
 -- ---- every list of calls has a history: the answers
 
-marking_of : Result ⊤ Refusal → Result ⊤ Refusal
-marking_of (Ok _) = Ok tt
-marking_of (Err y) = Err y
-
-marking_values_lem : (f : Result ⊤ Refusal) → marking_values (marking_of f) ≡ mark_values f
-unfolding marking_of
+marking_values_lem : (f : Result ⊤ Refusal) → marking_values f ≡ mark_values f
 marking_values_lem (Ok _) = refl
 marking_values_lem (Err y) = refl
 
-set_done : (m : Marked) (i : ℕ) → is_done (marking_of (try_at (set_checks m i) 0)) ≡ eqb (marking_values (marking_of (try_at (set_checks m i) 0))).number 0
-unfolding try_at marking_of
+set_done : (m : Marked) (i : ℕ) → is_done (try_at (set_checks m i) 0) ≡ eqb (marking_values (try_at (set_checks m i) 0)).number 0
+unfolding try_at
 set_done m i = go (bad_marked m) (not (ltb i 8))
   where
     go : (a b : Bool)
-        → is_done (marking_of (pick a (Err (refusal 32 0)) (pick b (Err (refusal 45 0)) (Ok tt)))) ≡ eqb (marking_values (marking_of (pick a (Err (refusal 32 0)) (pick b (Err (refusal 45 0)) (Ok tt))))).number 0
+        → is_done (pick a (Err (refusal 32 0)) (pick b (Err (refusal 45 0)) (Ok tt))) ≡ eqb (marking_values (pick a (Err (refusal 32 0)) (pick b (Err (refusal 45 0)) (Ok tt)))).number 0
     go true b = refl
     go false true = refl
     go false false = refl
 
-back_done : (m : Marked) (i : ℕ) → is_done (marking_of (try_at (back_checks m i) 0)) ≡ eqb (marking_values (marking_of (try_at (back_checks m i) 0))).number 0
-unfolding try_at marking_of
+back_done : (m : Marked) (i : ℕ) → is_done (try_at (back_checks m i) 0) ≡ eqb (marking_values (try_at (back_checks m i) 0)).number 0
+unfolding try_at
 back_done m i = go (bad_marked m) (not (ltb i 8)) (not (is_set (mark_of m i)))
   where
     go : (a b c : Bool)
-        → is_done (marking_of (pick a (Err (refusal 32 0)) (pick b (Err (refusal 45 0)) (pick c (Err (refusal 46 0)) (Ok tt)))))
-        ≡ eqb (marking_values (marking_of (pick a (Err (refusal 32 0)) (pick b (Err (refusal 45 0)) (pick c (Err (refusal 46 0)) (Ok tt)))))).number 0
+        → is_done (pick a (Err (refusal 32 0)) (pick b (Err (refusal 45 0)) (pick c (Err (refusal 46 0)) (Ok tt))))
+        ≡ eqb (marking_values (pick a (Err (refusal 32 0)) (pick b (Err (refusal 45 0)) (pick c (Err (refusal 46 0)) (Ok tt))))).number 0
     go true b c = refl
     go false true c = refl
     go false false true = refl
@@ -214,7 +209,7 @@ module _ (r : Run) (i : ℕ) (K : Marks) (k : MarksShaped K) where
   abbrev m : Marked
   m = marked_by r K
 
-  set_learnt : SetLearnt r i K (marking_of (try_at (set_checks (marked_by r K) i) 0)) (marks_after r i K)
+  set_learnt : SetLearnt r i K (try_at (set_checks (marked_by r K) i) 0) (marks_after r i K)
   unfolding set_values
   set_learnt =
       let K' : Marks = marks_after r i K in
@@ -239,7 +234,7 @@ module _ (r : Run) (i : ℕ) (K : Marks) (k : MarksShaped K) where
       }
 
   gone : Gone
-  gone = record { answer = marking_of (try_at (back_checks m i) 0); run = (back_as (try_at (back_checks m i) 0) i m).run }
+  gone = record { answer = try_at (back_checks m i) 0; run = (back_as (try_at (back_checks m i) 0) i m).run }
 
   back_learnt : BackLearnt r i K gone
   unfolding back_values gone
@@ -273,7 +268,7 @@ record CallExists (r : Run) (K : Marks) (c : MarkCall) : Type 0 where
 call_exists : (r : Run) (K : Marks) → MarksShaped K → (c : MarkCall) → CallExists r K c
 call_exists r K k (moving c) = record { answer = moved (answer_of c r); row = row_of c r; run = after_call c r; marks = K; call = by_call (called r c); shaped = k }
 call_exists r K k (setting i) =
-    record { answer = values (marking_values (marking_of (try_at (set_checks (marked_by r K) i) 0))); row = []; run = r; marks = marks_after r i K; call = by_set (set_learnt r i K k); shaped = after_shaped r i K k }
+    record { answer = values (marking_values (try_at (set_checks (marked_by r K) i) 0)); row = []; run = r; marks = marks_after r i K; call = by_set (set_learnt r i K k); shaped = after_shaped r i K k }
 call_exists r K k (going i) =
     record { answer = values (marking_values (gone r i K k).answer); row = []; run = (gone r i K k).run; marks = K; call = by_back (back_learnt r i K k); shaped = k }
 

@@ -10,7 +10,8 @@ ghost use Rattle.deques.specs.DequeTurn.{deque_turned};
 ghost use Rattle.deque_listing.specs.DequeListing.{deque_listed_by, deque_listing_of, input_texts};
 
 use lines::put_answer;
-use listing::{input_wrong, put_header, put_wrong, quota_in};
+use listing::{input_wrong, put_header, put_wrong};
+use table::front::three_bytes;
 use table::read::{byte, word};
 use turns::list_pairs;
 
@@ -41,7 +42,7 @@ fn put_text(input: &[u8], out: &mut [u8]) -> usize
     let table = &input[end..];
     let order = &input[6..end];
     let p = byte(input, 0);
-    let quota = quota_in(input);
+    let quota = three_bytes(input, 1);
     put_listing(table, p, quota, order, out)
 }
 

@@ -37,19 +37,16 @@ fn put_each(
 {
     let turns = order.len() / 2;
     let mut at = at;
-    let mut i = 0;
-    while i < turns {
+    for i in 0..turns {
         if status_at(&*bytes, 0) == ENDED {
             return put_end(false, out, at, true, &*sums);
         }
         let w = order[2 * i];
         let c = order[2 * i + 1];
-        let spoken = deque_turn_in(table, w as u32, c as u32, bytes, words, numbers, sums);
-        if spoken.number != 0 {
-            return put_refused(out, at, spoken.number as u8);
-        }
-        let reply = spoken.reply;
-        i += 1;
+        let reply = match deque_turn_in(table, w as u32, c as u32, bytes, words, numbers, sums) {
+            Err(number) => return put_refused(out, at, number as u8),
+            Ok(reply) => reply,
+        };
         at = put_step(table, &*words, &*sums, out, at, w, reply);
     }
     let ended = status_at(&*bytes, 0) == ENDED;
@@ -95,10 +92,9 @@ fn put_run(run: DequeRun, parents: &[u16; 1024], order: &[u8], out: &mut [u8], a
 pub(crate) fn list_pairs(run: DequeRun, order: &[u8], out: &mut [u8], at: usize) -> usize
     ensures { Puts out.old at out.new result (texts_of (list_pairs run order.now)) (64 * (length order.now / 2 + 1)) }
 {
-    let tested = deque_test(run);
-    if !tested.passed {
+    let Some(parents) = deque_test(run) else {
         return put_refused(out, at, 32);
-    }
+    };
     let record = run.run;
     if record.workers == 0 {
         if order.len() < 2 {
@@ -106,6 +102,5 @@ pub(crate) fn list_pairs(run: DequeRun, order: &[u8], out: &mut [u8], at: usize)
         }
         return put_refused(out, at, 30);
     }
-    let parents = tested.parents;
     put_run(run, &parents, order, out, at)
 }

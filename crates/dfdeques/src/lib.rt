@@ -97,14 +97,12 @@ pub fn deque_turn(run: DequeRun, w: u8, c: u8) -> DequeTurned
         &mut numbers,
         &mut sums,
     );
-    if spoken.number != 0 {
-        return refused(spoken.number as u8, run);
-    }
-    let after = unpack_deques(run, &bytes, &words, &numbers, &sums);
-    let reply = spoken.reply;
-    DequeTurned {
-        answer: Ok(reply),
-        run: after,
+    match spoken {
+        Err(number) => refused(number as u8, run),
+        Ok(reply) => DequeTurned {
+            answer: Ok(reply),
+            run: unpack_deques(run, &bytes, &words, &numbers, &sums),
+        },
     }
 }
 
@@ -156,7 +154,7 @@ pub fn run_pairs(run: DequeRun, order: &[u8]) -> DequeRan
         &mut numbers,
         &mut sums,
     );
-    let report = report_of(stop.number as u8, stop.finished, stop.turns);
+    let report = report_of(stop.finished, stop.turns);
     let after = unpack_deques(run, &bytes, &words, &numbers, &sums);
     DequeRan { report, run: after }
 }

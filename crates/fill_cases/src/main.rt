@@ -91,9 +91,10 @@ fn one(rt: &HostRuntime) -> io::Result<bool> {
 }
 
 fn main(rt: HostRuntime) -> io::Result<()> {
-    let mut left: u32 = 1000;
-    while 0 < left && one(&rt)? {
-        left -= 1;
+    for _ in 0..1000 {
+        if !one(&rt)? {
+            break;
+        }
     }
     Ok(())
 }

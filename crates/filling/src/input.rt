@@ -1,26 +1,11 @@
 // The input of `filltable` taken apart: K and a table.
 ghost use Rattle.std.specs.Prelude.{◌≡◌};
-ghost use Rattle.table.specs.Format.{u24_at};
-ghost use Rattle.table.specs.Sum.{Read};
 ghost use Rattle.filling.specs.Filling.{answer_of, whole_into, answer_to, answered_in};
 
 use crate::fill_in;
 use table::Refusal;
-use table::read::{byte, word};
+use table::front::three_bytes;
 use text::put_word;
-
-// K, 24 bits.
-fn quota_in(input: &[u8]) -> u32
-    ensures { result ≡ u24_at input.now 0 }
-{
-    (word(input, 0) + 65536 * wide(byte(input, 2))) as u32
-}
-
-fn wide(x: u8) -> usize
-    ensures { Read x 256 result }
-{
-    x as usize
-}
 
 // The table that runs, in place or filled out, at the start of the buffer; the buffer is as it was where a check applies.
 fn fill_whole(table: &[u8], quota: u32, out: &mut [u8; 36868]) -> Result<usize, Refusal>
@@ -44,5 +29,5 @@ pub fn fill_input(input: &[u8], out: &mut [u8; 36868]) -> Result<usize, Refusal>
     if input.len() < 3 {
         return Err(Refusal::new(33, 0));
     }
-    fill_whole(&input[3..], quota_in(input), out)
+    fill_whole(&input[3..], three_bytes(input, 0), out)
 }

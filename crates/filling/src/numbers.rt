@@ -8,11 +8,11 @@ ghost use Rattle.filling.specs.Filled.{big, half, dummies, threads_to};
 ghost use Rattle.filling.specs.Code.Steps.{Ready, new_of, root_step, Sums, RootsTo, Sizes, Starts, At, split_at};
 
 use crate::count::{amount, dummies_of, new_threads};
-use table::kinds::{END, FORK};
+use table::kinds::Kind;
 use table::read;
 
 // A thread, and the root that the next big alloc of it gets.
-#[derive(Drop)]
+#[derive(Clone, Copy)]
 pub(crate) struct Place {
     pub(crate) thread: usize,
     pub(crate) root: usize,
@@ -25,10 +25,10 @@ pub(crate) fn step(table: &[u8], n: usize, quota: usize, a: usize, sums: &[u64; 
     requires sums { Sums (table_of table.now) quota sums.now (owner (table_of table.now) a + 1) }
     ensures { Read (root_step (table_of table.now) quota a) 16777216 result }
 {
-    if read::code(table, n, a) == FORK {
-        return sums[read::argument(table, n, a)] as usize;
+    match read::kind(table, n, a) {
+        Kind::Fork => sums[read::argument(table, n, a)] as usize,
+        _ => new_threads(amount(table, n, a), quota),
     }
-    new_threads(amount(table, n, a), quota)
 }
 
 // The new threads of thread t with its children.
@@ -53,9 +53,7 @@ pub(crate) fn fill_sums(table: &[u8], n: usize, quota: usize, sums: &mut [u64; 1
     requires sums_len { length sums.old ≡ 1024 }
     ensures { Sums (table_of table.now) quota sums.new 0 }
 {
-    let mut t = n;
-    while 0 < t {
-        t -= 1;
+    for t in (0..n).rev() {
         sums[t] = thread_sum(table, n, quota, t, sums) as u64;
     }
 }
@@ -77,20 +75,22 @@ pub(crate) fn place_after(
     requires starts { Starts (table_of table.now) quota (a + 1) starts.now }
     ensures { a + 1 < (table_of table.now).actions → At (table_of table.now) quota (a + 1) result.thread result.root }
 {
-    if read::code(table, n, a) != END {
-        return Place {
+    match read::kind(table, n, a) {
+        Kind::End => {
+            let t = place.thread + 1;
+            if n <= t {
+                return place;
+            }
+            Place {
+                thread: t,
+                root: starts[t] as usize,
+            }
+        }
+        _ => Place {
             thread: place.thread,
             root: place.root + step(table, n, quota, a, sums),
-        };
+        },
     }
-    let t = place.thread + 1;
-    if t < n {
-        return Place {
-            thread: t,
-            root: starts[t] as usize,
-        };
-    }
-    place
 }
 
 // At a fork: where the child's roots begin.
@@ -99,7 +99,7 @@ fn note_start(table: &[u8], n: usize, a: usize, root: usize, starts: &mut [u64; 
     requires a_bound { kind (table_of table.now) a ≡ fork → (table_of table.now).argument a < 1024 }
     ensures { starts.new ≡ pick (is fork (kind (table_of table.now) a)) (set starts.old ((table_of table.now).argument a) root) starts.old }
 {
-    if read::code(table, n, a) == FORK {
+    if let Kind::Fork = read::kind(table, n, a) {
         starts[read::argument(table, n, a)] = root as u64;
     }
 }

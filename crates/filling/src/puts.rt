@@ -1,11 +1,12 @@
 // The filled-out table's rows, put one after another: the head, the entries, the bodies of the table's own threads, the trees.
 ghost use Rattle.std.specs.Prelude.{◌≡◌, ◌<◌, length, get_or, ltb};
 ghost use mathlib.Core.List.{[], ◌∷◌, ◌++◌, flatten};
-ghost use Rattle.table.specs.Format.{table_of};
+ghost use Rattle.table.specs.Format.{code_of, table_of};
 ghost use Rattle.table.specs.Serial.{serial_order};
 ghost use Rattle.table.specs.Sum.{pick, Read};
 ghost use Rattle.table.specs.Written.{action_at, entry_rows, action_rows, table_rows};
-ghost use Rattle.text.specs.Text.{buffer_at};
+ghost use Rattle.text.specs.Text.{buffer_at, placed};
+ghost use Rattle.rows.specs.Rows.{cut_action};
 ghost use Rattle.text.specs.Puts.{put_all};
 ghost use Rattle.filling.specs.Filled.{root_of, in_front, filled_from, filled_body, trees_along, filled_bodies, threads_to, actions_to};
 ghost use Rattle.filling.specs.TreeSizes.{tree_body};
@@ -14,10 +15,15 @@ ghost use Rattle.filling.specs.Code.Steps.{Ready, Sums, Sizes, Starts, front_row
 use crate::count::amount;
 use crate::numbers::{Place, place_after};
 use rows::{put_action, put_pair};
-use table::kinds::{END, FORK, JOIN};
+use table::kinds::Kind;
 use table::read;
 
-const WORK: u8 = 1;
+// A kind and its argument.
+fn put_kind(out: &mut [u8], at: usize, kind: Kind, x: usize) -> usize
+    ensures { buffer_at out.new result ≡ placed out.old at (cut_action (code_of kind) x) }
+{
+    put_action(out, at, kind.code(), x)
+}
 
 // In front of an alloc of x, where it is above the quota, the fork and the join of its tree.
 fn put_front(out: &mut [u8], at: usize, x: usize, quota: usize, root: usize) -> usize
@@ -26,8 +32,8 @@ fn put_front(out: &mut [u8], at: usize, x: usize, quota: usize, root: usize) -> 
     if x <= quota {
         return at;
     }
-    let after = put_action(out, at, FORK, root);
-    put_action(out, after, JOIN, root)
+    let after = put_kind(out, at, Kind::Fork, root);
+    put_kind(out, after, Kind::Join, root)
 }
 
 // Action a with what it gets in front of it.
@@ -85,15 +91,15 @@ fn put_tree(out: &mut [u8], at: usize, c: usize, d: usize) -> usize
     ensures { buffer_at out.new result ≡ put_all (buffer_at out.old at) (action_rows (tree_body c d)) }
 {
     if d <= 1 {
-        let after = put_action(out, at, WORK, 0);
-        return put_action(out, after, END, 0);
+        let after = put_kind(out, at, Kind::Work, 0);
+        return put_kind(out, after, Kind::End, 0);
     }
     let y = c + 2 * ((d + 1) / 2);
-    let at = put_action(out, at, FORK, c + 1);
-    let at = put_action(out, at, FORK, y);
-    let at = put_action(out, at, JOIN, y);
-    let at = put_action(out, at, JOIN, c + 1);
-    put_action(out, at, END, 0)
+    let at = put_kind(out, at, Kind::Fork, c + 1);
+    let at = put_kind(out, at, Kind::Fork, y);
+    let at = put_kind(out, at, Kind::Join, y);
+    let at = put_kind(out, at, Kind::Join, c + 1);
+    put_kind(out, at, Kind::End, 0)
 }
 
 // The bodies of the new threads.

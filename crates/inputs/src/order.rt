@@ -25,7 +25,7 @@ fn add_worker(w: &[u8], order: &mut [u8], n: usize) -> Result<usize, Wanted>
     }
 }
 
-// The workers on a line after `order`, after n.
+// The workers on a line after `order`, after n: word by word, without an index that is counted. The order lies in a buffer with its count, since there is no heap.
 pub(crate) fn order_line(rest: &[u8], order: &mut [u8], n: usize) -> Result<usize, Wanted>
     requires { Room order.old n }
     ensures { Ordering result order.new (order_from (take n order.old) (words_in rest.now)) }
@@ -40,13 +40,7 @@ pub(crate) fn order_line(rest: &[u8], order: &mut [u8], n: usize) -> Result<usiz
         if start == end {
             return Ok(n);
         }
-        let ordered = add_worker(&part[start..end], order, n);
-        match ordered {
-            Err(e) => return Err(e),
-            Ok(k) => {
-                n = k;
-            }
-        }
+        n = add_worker(&part[start..end], order, n)?;
         at += end;
     }
     Ok(n)

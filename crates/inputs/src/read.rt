@@ -48,6 +48,7 @@ fn at_end(front: Front) -> Result<Front, Wanted>
     }
 }
 
+// Line by line: the loop counts lines and no index.
 pub(crate) fn read_front(text: &[u8], order: &mut [u8]) -> Read
     requires { Readable text.now order.old }
     ensures { ReadsFront text.now order.new result }

@@ -48,7 +48,7 @@ pub fn join(tables: &[u8], lengths: &[u32], out: &mut [u8; 36868]) -> Result<Fac
     )
 }
 
-// The same in lent working memory, which may hold anything and is left cleared.
+// The same in lent working memory (C lends it, and the parts as two lists), which may hold anything and is left cleared.
 pub fn join_in(
     tables: &[u8],
     lengths: &[u32],

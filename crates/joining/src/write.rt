@@ -8,7 +8,10 @@ ghost use Rattle.joining.specs.Code.Rows.{starts_over, entries_over, moved_over,
 
 use crate::split::part_at;
 use rows::{put_action, put_entries, put_moved, put_pair};
+use table::kinds::Kind;
 use table::read::{actions, threads};
+
+// The loops below differ in what they put and in what they add up: one for all would take both as closures, and be longer.
 
 // The parts' entries, after those of the root.
 fn put_part_entries(out: &mut [u8], at: usize, tables: &[u8], lengths: &[u32]) -> usize
@@ -49,7 +52,7 @@ fn put_forks(out: &mut [u8], at: usize, tables: &[u8], lengths: &[u32]) -> usize
     let mut at = at;
     let mut root = 1;
     for i in 0..lengths.len() {
-        at = put_action(out, at, 4, root);
+        at = put_action(out, at, Kind::Fork.code(), root);
         root += threads(part_at(tables, lengths, i));
     }
     at
@@ -64,7 +67,7 @@ fn put_joins(out: &mut [u8], at: usize, tables: &[u8], lengths: &[u32], n: usize
     let mut root = n;
     for i in (0..lengths.len()).rev() {
         root -= threads(part_at(tables, lengths, i));
-        at = put_action(out, at, 5, root);
+        at = put_action(out, at, Kind::Join.code(), root);
     }
     at
 }
@@ -85,6 +88,6 @@ pub(crate) fn put_joined(
     let at = put_part_entries(out, at, tables, lengths);
     let at = put_forks(out, at, tables, lengths);
     let at = put_joins(out, at, tables, lengths, n);
-    let at = put_action(out, at, 0, 0);
+    let at = put_action(out, at, Kind::End.code(), 0);
     put_part_actions(out, at, tables, lengths)
 }

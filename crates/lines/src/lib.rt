@@ -2,16 +2,15 @@
 #![tactic(auto)]
 
 ghost use Rattle.std.specs.Prelude.{◌+◌, [], ◌∷◌, length};
-ghost use Rattle.table.specs.Format.{kind_of};
 ghost use Rattle.table.specs.Pass.{refusal};
 ghost use Rattle.text.specs.Text.{line_of, refused_line};
 ghost use Rattle.schedule.specs.Listing.{line, told_with, last_with};
 ghost use Rattle.lines.specs.Lines.{kind_word, pair_texts, told_texts, turn_texts, totals_texts, last_texts};
 ghost use Rattle.text.specs.Puts.{Puts};
 
-use table::Facts;
 use schedule::Reply;
-use table::Refusal;
+use table::kinds::Kind;
+use table::{Facts, Refusal};
 use text::{put_labelled, put_number, put_word};
 
 // The line of a table's answer: its facts, or a refusal.
@@ -27,21 +26,21 @@ pub fn put_answer(out: &mut [u8], at: usize, answer: Result<Facts, Refusal>) -> 
 pub fn put_refused(out: &mut [u8], at: usize, number: u8) -> usize
     ensures { Puts out.old at out.new result (refused_line (refusal number 0) ∷ []) 64 }
 {
-    put_answer(out, at, Err(Refusal { number, place: 0 }))
+    put_answer(out, at, Err(Refusal::new(number, 0)))
 }
 
-// A kind's name, from its code.
-fn put_kind(out: &mut [u8], at: usize, code: u8) -> usize
-    ensures { Puts out.old at out.new result (kind_word (kind_of code) ∷ []) 6 }
+// A kind's name.
+fn put_kind(out: &mut [u8], at: usize, kind: Kind) -> usize
+    ensures { Puts out.old at out.new result (kind_word kind ∷ []) 6 }
 {
-    match code {
-        0 => put_word(out, at, b" end"),
-        1 => put_word(out, at, b" work"),
-        2 => put_word(out, at, b" alloc"),
-        3 => put_word(out, at, b" free"),
-        4 => put_word(out, at, b" fork"),
-        5 => put_word(out, at, b" join"),
-        _ => put_word(out, at, b" -"),
+    match kind {
+        Kind::End => put_word(out, at, b" end"),
+        Kind::Work => put_word(out, at, b" work"),
+        Kind::Alloc => put_word(out, at, b" alloc"),
+        Kind::Free => put_word(out, at, b" free"),
+        Kind::Fork => put_word(out, at, b" fork"),
+        Kind::Join => put_word(out, at, b" join"),
+        Kind::Unknown => put_word(out, at, b" -"),
     }
 }
 
@@ -54,14 +53,14 @@ fn put_pair(out: &mut [u8], at: usize, thread: u16, action: u16) -> usize
 }
 
 // Thread, action and name.
-fn put_told(out: &mut [u8], at: usize, reply: Reply, code: u8, next: u16) -> usize
-    ensures { Puts out.old at out.new result (told_texts (told_with reply (kind_of code) next)) 18 }
+fn put_told(out: &mut [u8], at: usize, reply: Reply, kind: Kind, next: u16) -> usize
+    ensures { Puts out.old at out.new result (told_texts (told_with reply kind next)) 18 }
 {
     match reply {
         Reply::Idle => put_word(out, at, b" - - idle"),
         Reply::Done { thread, action } => {
             let at = put_pair(out, at, thread, action);
-            put_kind(out, at, code)
+            put_kind(out, at, kind)
         }
         Reply::Quota { thread, wanted: _ } => {
             let at = put_pair(out, at, thread, next);
@@ -74,22 +73,22 @@ fn put_told(out: &mut [u8], at: usize, reply: Reply, code: u8, next: u16) -> usi
     }
 }
 
-// The line of a turn of worker w: `code` is the kind of the action done, `next` the thread's next action after the turn.
+// The line of a turn of worker w: `kind` is that of the action done, `next` the thread's next action after the turn.
 pub fn put_turn(
     out: &mut [u8],
     at: usize,
     turns: u64,
     w: u8,
     reply: Reply,
-    code: u8,
+    kind: Kind,
     next: u16,
     held: u64,
 ) -> usize
-    ensures { Puts out.old at out.new result (turn_texts (line turns w (told_with reply (kind_of code) next) held)) 64 }
+    ensures { Puts out.old at out.new result (turn_texts (line turns w (told_with reply kind next) held)) 64 }
 {
     let at = put_number(out, at, turns);
     let at = put_labelled(out, at, b" ", w as u64);
-    let at = put_told(out, at, reply, code, next);
+    let at = put_told(out, at, reply, kind, next);
     let at = put_labelled(out, at, b" ", held);
     put_word(out, at, b"\n")
 }

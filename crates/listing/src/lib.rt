@@ -16,14 +16,14 @@ ghost use Rattle.text.specs.Puts.{Puts};
 ghost use Rattle.listing.specs.Listing.{listing_of, wall_of, printed_texts, rounds_of};
 
 use chart::{MOST_TURNS, put_line};
-use input::limit_in;
-pub use input::{input_wrong, put_wrong, quota_in};
+pub use input::{input_wrong, put_wrong};
 use lines::put_refused;
 use rounds::put_rounds;
 use schedule::Run;
 pub use sheets::put_header;
 use sheets::{put_chart, put_listing};
 use soundness::test;
+use table::front::{four_bytes, three_bytes};
 use table::read::{byte, word};
 use turns::put_turns;
 pub use turns::{put_end, put_step};
@@ -39,7 +39,7 @@ fn put_text(chart: bool, input: &[u8], out: &mut [u8]) -> usize
     let table = &input[end..];
     let order = &input[6..end];
     let p = byte(input, 0);
-    let quota = quota_in(input);
+    let quota = three_bytes(input, 1);
     if chart {
         return put_chart(table, p, quota, order, out);
     }
@@ -76,8 +76,8 @@ pub fn rounds_line(input: &[u8], out: &mut [u8; 96]) -> usize
     put_rounds(
         &input[8..],
         byte(input, 0),
-        quota_in(input),
-        limit_in(input),
+        three_bytes(input, 1),
+        four_bytes(input, 4),
         out,
     )
 }

@@ -22,7 +22,7 @@ use run_memory::runs::ends_root;
 use run_memory::turn_in;
 use schedule::statuses::ENDED;
 use schedule::{Reply, Run};
-use table::read::{code, threads};
+use table::read::{self, threads};
 
 // The action that a reply says was done, 0 where none was.
 fn action_done(reply: Reply) -> u16
@@ -67,10 +67,10 @@ pub fn put_step(
     ensures { Puts out.old at out.new result
         (turn_texts (line_in (table_of table.now) w reply (words_in words.now) (sums_in sums.now))) 64 }
 {
-    let code = code(table, threads(table), action_done(reply) as usize);
-    let action = row_at(words, NEXT, thread_in(reply));
+    let kind = read::kind(table, threads(table), action_done(reply) as usize);
+    let next = row_at(words, NEXT, thread_in(reply));
     let held = total_at(sums, HELD);
-    put_turn(out, at, total_at(sums, TURNS), w, reply, code, action, held)
+    put_turn(out, at, total_at(sums, TURNS), w, reply, kind, next, held)
 }
 
 // What is put after a turn: the chart's line of the record, or the turn's line.
@@ -152,7 +152,7 @@ fn too_many(chart: bool, turns: u64) -> bool
     chart && MOST_TURNS < turns
 }
 
-// The turns of an order, from a record whose root has not ended.
+// The turns of an order, from a record whose root has not ended. `chart` is a value and no closure: `turns_texts` has it too, and three closures would each need their part of it as a contract.
 fn put_each(
     chart: bool,
     table: &[u8],
@@ -171,15 +171,11 @@ fn put_each(
         (widest chart * (length order.now + 1)) }
 {
     let mut at = at;
-    let mut i = 0;
-    while i < order.len() {
-        let w = order[i];
-        let spoken = turn_in(table, w as u32, false, bytes, words, numbers, sums);
-        if spoken.number != 0 {
-            return put_refused(out, at, spoken.number as u8);
-        }
-        let reply = spoken.reply;
-        i += 1;
+    for &w in order {
+        let reply = match turn_in(table, w as u32, false, bytes, words, numbers, sums) {
+            Err(number) => return put_refused(out, at, number as u8),
+            Ok(taken) => taken.reply,
+        };
         if too_many(chart, total_at(&*sums, TURNS)) {
             return put_refused(out, at, 43);
         }

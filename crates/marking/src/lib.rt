@@ -29,13 +29,6 @@ pub struct Gone {
     pub run: Run,
 }
 
-// A call's number, and the run after it.
-#[derive(Drop)]
-struct Packed {
-    number: u32,
-    run: Run,
-}
-
 fn answer_of(number: u32) -> Result<(), Refusal>
     requires { number < 256 }
     ensures result_value { marking_values result ≡ numbered number }
@@ -193,9 +186,10 @@ fn back_packed(
     forks: &mut [u16; 1024],
     seen: &mut [u16; 1024],
     list: &mut [u16; 1024],
-) -> Packed
+) -> Gone
     requires { unsound run ≡ false }
-    ensures number_value { result.number ≡ (lent_back (bytes_of run) i (memory_for run parents.now) (marks_of set.now markbytes.now markwords.now marknumbers.now marksums.now)).number }
+    ensures answer_value { marking_values result.answer ≡ numbered (lent_back (bytes_of run) i (memory_for run parents.now) (marks_of set.now markbytes.now markwords.now marknumbers.now marksums.now)).number }
+    ensures answer_value_2 { is_done result.answer ≡ eqb (marking_values result.answer).number 0 }
     ensures run_value { result.run ≡ record_in (bytes_of run) (lent_back (bytes_of run) i (memory_for run parents.now) (marks_of set.now markbytes.now markwords.now marknumbers.now marksums.now)).memory }
 {
     let all = run.table;
@@ -241,10 +235,16 @@ fn back_packed(
         list,
     );
     if number != 0 {
-        return Packed { number, run };
+        return Gone {
+            answer: answer_of(number),
+            run,
+        };
     }
     let after = restored(run, &bytes, &words, &numbers, &sums);
-    Packed { number, run: after }
+    Gone {
+        answer: Ok(()),
+        run: after,
+    }
 }
 
 // Sets mark i to the run as it is: 32, of the run or of a set mark, 45. The marks as they were where it refuses; the working memory is left cleared.
@@ -390,7 +390,7 @@ pub fn go_back(
             run,
         };
     };
-    let packed = back_packed(
+    let gone = back_packed(
         run,
         &parents,
         i,
@@ -430,9 +430,5 @@ pub fn go_back(
         seen,
         list,
     );
-    let after = packed.run;
-    Gone {
-        answer: answer_of(packed.number),
-        run: after,
-    }
+    gone
 }

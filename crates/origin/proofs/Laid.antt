@@ -1,27 +1,24 @@
 -- What is read of a table U that is laid out as T filled out with quota K. Both tables that a beginning runs are: the filled-out one, and T itself where no alloc is above K.
-use Prim.Native.Nat.{ℕ, zero, suc, ◌+◌, ◌-◌, ◌*◌, ◌/◌, ◌≤◌, ◌<◌}
+use Prim.Native.Nat.{ℕ, zero, suc, ◌+◌, ◌-◌, ◌≤◌, ◌<◌}
 use native.Mathlib.Omega.{arith}
 use native.Mathlib.Decide.{dec_lt}
 use mathlib.Core.Path.{◌≡◌, refl, sym, ap, ◌∙◌}
 use mathlib.Core.Bool.{Bool, true, false}
-use lib.Dec.{ltb}
-use lib.ListN.{length}
 use borrow.Author.Tests.{lt-ltb, le-ltb}
-use Rattle.table.specs.Sum.{pick, sum_to}
+use Rattle.table.specs.Sum.{sum_to}
 use Rattle.table.specs.Format.{is, code_of, Table, kind}
-use Rattle.table.specs.declared.kinds.Kind.TheVariants.{Fork as fork, Join as join, Alloc as alloc}
+use Rattle.table.specs.declared.kinds.Kind.TheVariants.{Fork as fork, Join as join}
 use Rattle.table.specs.Checks.{owner, alloc_of}
 use Rattle.table.specs.Rules.{ContentRules}
 use Rattle.table.proofs.Sums.{sum_to_zero}
 use Rattle.table.proofs.Tests.{no_way}
 use Rattle.table.proofs.Bodies.{first_is, first_next, last_ends, body_within, owner_is, owner_at, owner_below_lem, owner_first, owner_end}
-use Rattle.order.proofs.Lawful.{Lawful}
 use Rattle.order.proofs.Totals.{sum_to_append}
-use Rattle.filling.specs.Filled.{big, dummies, new_threads, root_of, in_front, filled_from}
+use Rattle.filling.specs.Filled.{big, new_threads, root_of}
 use Rattle.filling.proofs.Fills.{Fills, c, count_old, root_in, quiet, start, placed, placed_kind, placed_argument, placed_within, front_fork, front_root, front_join, front_joined, threads_are}
 use Rattle.filling.proofs.FilledTable.{none_new}
 use Rattle.filling.proofs.Roots.{all_serial}
-use Rattle.origin.specs.Origin.{written_to, place_of, bodies_to, bigs_to}
+use Rattle.origin.specs.Origin.{written_to, place_of, bodies_to}
 use Rattle.origin.proofs.Places.{written_none, written_append, written_part, written_next, front_big, front_small}
 
 pub record Laid (T : Table) (K : ℕ) (U : Table) : Type 0 where

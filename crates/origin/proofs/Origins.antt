@@ -12,8 +12,7 @@ use borrow.Author.Tests.{le-ltb, le-leb, lt-leb}
 use Rattle.table.specs.Sum.{pick, sum_to, any_below}
 use Rattle.table.specs.Format.{is, code_of, Table, table_of, kind}
 use Rattle.table.specs.declared.kinds.Kind.TheVariants.{Fork as fork, Join as join}
-use Rattle.table.specs.Checks.{owner, outside, alloc_of}
-use Rattle.table.specs.Rules.{Rules}
+use Rattle.table.specs.Checks.{owner, outside}
 use Rattle.table.specs.Written.{written}
 use Rattle.table.proofs.Tests.{is_true}
 use Rattle.table.proofs.Bodies.{fork_below_lem, join_below}
@@ -23,7 +22,7 @@ use Rattle.filling.specs.Filling.{fill_found}
 use Rattle.filling.specs.Code.Steps.{Ready}
 use Rattle.filling.proofs.FilledTable.{Fits, any_false, fills}
 use Rattle.filling.proofs.Measured.{found_ready}
-use Rattle.origin.specs.Origin.{no_action, written_to, place_of, origin_below, origin_of, given_threads, bigs_to, bodies_to, put_in, origin_in}
+use Rattle.origin.specs.Origin.{no_action, written_to, place_of, origin_of, given_threads, bigs_to, put_in, origin_in}
 use Rattle.origin.proofs.Places.{written_none, written_part, written_next, front_big, front_small, place_rise, Group, group, origin_place, origin_none, origin_only}
 use Rattle.origin.proofs.Laid.{Laid, sums_to, sums_all, laid_filled, laid_given}
 

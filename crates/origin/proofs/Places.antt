@@ -3,7 +3,7 @@ use Prim.Native.Nat.{ℕ, zero, suc, ◌+◌, ◌-◌, ◌≤◌, ◌<◌}
 use native.Mathlib.Omega.{arith}
 use native.Mathlib.Decide.{dec_lt, ℕ_discrete}
 use mathlib.Core.Path.{◌≡◌, refl, ap, ◌∙◌}
-use mathlib.Core.List.{[], ◌∷◌, ◌++◌}
+use mathlib.Core.List.{[], ◌∷◌}
 use mathlib.Core.Bool.{Bool, true, false}
 use lib.Dec.{eqb}
 use lib.ListN.{length, length-append}
@@ -13,7 +13,7 @@ use Rattle.table.specs.Format.{Table}
 use Rattle.table.specs.Written.{action_at}
 use Rattle.filling.specs.Filled.{big, in_front, filled_from}
 use Rattle.filling.proofs.OldThreads.{filled_append}
-use Rattle.origin.specs.Origin.{no_action, written_to, place_of, origin_below, origin_of}
+use Rattle.origin.specs.Origin.{no_action, written_to, place_of, origin_below}
 
 module _ (T : Table) (K : ℕ) where
   pub written_none : written_to T K 0 ≡ 0

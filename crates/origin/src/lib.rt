@@ -2,53 +2,24 @@
 #![tactic(auto)]
 
 ghost use Rattle.std.specs.Prelude.{◌≡◌, suc, ◌+◌, ◌-◌, ◌*◌, ◌/◌, ◌≤◌, ◌<◌, ltb, leb, ◌||◌};
-ghost use Rattle.table.specs.Checks.{outside as is_outside, alloc_of};
-ghost use Rattle.table.specs.Format.{is, kind_of, table_of};
+ghost use Rattle.table.specs.Format.{is, table_of};
 ghost use Rattle.table.specs.declared.kinds.Kind.TheVariants.{Fork as fork, Join as join};
 ghost use Rattle.table.specs.Sum.{pick, sum_to, Read};
 ghost use Rattle.filling.specs.Filled.{new_threads};
 ghost use Rattle.origin.specs.Origin.{bigs_to, bodies_to, put_in, origin_in};
 
-use table::kinds::{ALLOC, FORK, JOIN};
-use table::read;
+use filling::count::{amount, new_threads};
+use table::kinds::Kind;
+use table::{outside, read};
 
-// No action: a table has at most 65,535.
+// No action, as C gets it: a table has at most 65,535.
 const NONE: u32 = 65535;
 
 // Of the first actions of a table: the allocs above the quota, and the threads that they brought.
-#[derive(Drop)]
+#[derive(Clone, Copy)]
 struct Counted {
     bigs: usize,
     threads: usize,
-}
-
-fn outside(quota: u32) -> bool
-    ensures { result ≡ is_outside 1 16777215 quota }
-{
-    quota < 1 || 16777215 < quota
-}
-
-// What action a allocates.
-fn amount(table: &[u8], n: usize, a: usize) -> usize
-    requires { n ≡ (table_of table.now).threads }
-    ensures { Read (alloc_of (table_of table.now) a) 16777216 result }
-{
-    if read::code(table, n, a) != ALLOC {
-        return 0;
-    }
-    read::argument(table, n, a)
-}
-
-// The threads that an alloc of x brings.
-fn new_threads(x: usize, quota: usize) -> usize
-    requires x_bound { x < 16777216 }
-    requires le_quota { (1 ≤ quota) × (quota < 16777216) }
-    ensures { Read (pick (ltb quota x) (2 * ((x + quota - 1) / quota) - 1) 0) 67108864 result }
-{
-    if x <= quota {
-        return 0;
-    }
-    2 * ((x + quota - 1) / quota) - 1
 }
 
 // 1 for an alloc of x above the quota.
@@ -56,26 +27,6 @@ fn above(x: usize, quota: usize) -> usize
     ensures { Read (pick (ltb quota x) 1 0) 2 result }
 {
     if quota < x { 1 } else { 0 }
-}
-
-// x less y, and no less than 0.
-fn less(x: usize, y: usize) -> usize
-    requires { x < 65536 }
-    ensures { Read (x - y) 65536 result }
-{
-    if x < y {
-        return 0;
-    }
-    x - y
-}
-
-// x less two for each of y.
-fn less_pairs(x: usize, y: usize) -> usize
-    requires x_bound { x < 65536 }
-    requires y_bound { y < 65537 }
-    ensures { Read (x - 2 * y) 65536 result }
-{
-    less(x, 2 * y)
 }
 
 // Over the first k actions.
@@ -108,10 +59,13 @@ fn bodies_to(table: &[u8], n: usize, t: usize) -> usize
 }
 
 // Whether an action of this kind names a thread.
-fn names_thread(code: u8) -> bool
-    ensures { result ≡ (is fork (kind_of code) || is join (kind_of code)) }
+fn names_thread(kind: Kind) -> bool
+    ensures { result ≡ (is fork kind || is join kind) }
 {
-    code == FORK || code == JOIN
+    match kind {
+        Kind::Fork | Kind::Join => true,
+        _ => false,
+    }
 }
 
 fn at_least(x: usize, y: usize) -> bool
@@ -128,7 +82,7 @@ fn is_put_in(table: &[u8], n: usize, given: usize, a: usize) -> bool
     if bodies_to(table, n, given) <= a {
         return true;
     }
-    if names_thread(read::code(table, n, a)) {
+    if names_thread(read::kind(table, n, a)) {
         return at_least(read::argument(table, n, a), given);
     }
     false
@@ -142,7 +96,7 @@ fn kept(table: &[u8], n: usize, quota: usize, a: usize) -> usize
     ensures { Read (a - 2 * bigs_to (table_of table.now) quota (a + 1)) 65536 result }
 {
     let counted = brought(table, n, quota, a + 1);
-    less_pairs(a, counted.bigs)
+    a.saturating_sub(2 * counted.bigs)
 }
 
 // Of action a of the table that runs with this quota: the action of the table as given that it is, or 65,535 where it was put in, or where there is no such action or quota.
@@ -150,7 +104,7 @@ pub fn origin(table: &[u8], quota: u32, a: u64) -> u32
     ensures { result ≡ origin_in (table_of table.now) quota a }
 {
     let m = read::actions(table);
-    if outside(quota) {
+    if outside(1, 16777215, quota as usize) {
         return NONE;
     }
     if m as u64 <= a {
@@ -159,7 +113,7 @@ pub fn origin(table: &[u8], quota: u32, a: u64) -> u32
     let n = read::threads(table);
     let at = a as usize;
     let all = brought(table, n, quota as usize, m);
-    let given = less(n, all.threads);
+    let given = n.saturating_sub(all.threads);
     if is_put_in(table, n, given, at) {
         return NONE;
     }

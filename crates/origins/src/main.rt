@@ -1,27 +1,11 @@
 // Reads the input of `filltable` on standard input, K (3 bytes) and a table, and prints a line for each action of the table that runs with that quota: the number of the action of the table as given that it is, or - where it was put in. Where no table runs, the check that refuses.
 #![tactic(auto)]
 
-ghost use Rattle.std.specs.Prelude.{◌≡◌};
-ghost use Rattle.table.specs.Format.{u24_at};
-ghost use Rattle.table.specs.Sum.{Read};
-
 use std::io;
 use std::io::Write;
 use streams::read_full;
+use table::front::three_bytes;
 use table::{Refusal, read};
-
-fn wide(x: u8) -> usize
-    ensures { Read x 256 result }
-{
-    x as usize
-}
-
-// K, 24 bits.
-fn quota_in(input: &[u8]) -> u32
-    ensures { result ≡ u24_at input.now 0 }
-{
-    (read::word(input, 0) + 65536 * wide(read::byte(input, 2))) as u32
-}
 
 fn print_origin(rt: &HostRuntime, x: u32) -> io::Result<()> {
     if x == 65535 {
@@ -47,7 +31,7 @@ fn refused(rt: &HostRuntime, refusal: Refusal) -> io::Result<()> {
 }
 
 fn print_answer(rt: &HostRuntime, input: &[u8]) -> io::Result<()> {
-    let quota = quota_in(input);
+    let quota = three_bytes(input, 0);
     let mut table = [0u8; 36868];
     let answer = filling::fill_input(input, &mut table);
     match answer {

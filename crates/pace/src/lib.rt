@@ -40,12 +40,6 @@ pub fn start(p: u32, b: u32, pace: &mut [u32; 260]) -> u32
     0
 }
 
-fn larger(a: u32, b: u32) -> u32
-    ensures { result ≡ max a b }
-{
-    if a < b { b } else { a }
-}
-
 // The greatest of worker w's sixteen numbers.
 fn most(pace: &[u32; 260], w: usize) -> u32
     requires { w < 16 }
@@ -55,7 +49,7 @@ fn most(pace: &[u32; 260], w: usize) -> u32
     let mut greatest = 0;
     for x in 0..16 {
         let n = pace[base + x];
-        greatest = larger(greatest, n);
+        greatest = greatest.max(n);
     }
     greatest
 }
@@ -112,7 +106,7 @@ pub fn took(pace: &mut [u32; 260], w: u32)
     if w < 16 {
         let i = w as usize;
         let n = most(&*pace, i);
-        pace[KEPT] = larger(pace[KEPT], n);
+        pace[KEPT] = pace[KEPT].max(n);
         pace[AFTER] = w + 1;
         count(pace, i);
         renew(pace, i);

@@ -1,5 +1,5 @@
 -- A beginning of a pace and a paced turn, by the answers of the calls below them.
-use Rattle.std.specs.Prelude.{Err, Ok, Result}
+use Rattle.std.specs.Prelude.{Err, Ok, Result, is_err}
 use Rattle.table.specs.declared.Refusal.{Refusal}
 use Rattle.schedule.specs.declared.Taken.{Taken}
 use mathlib.Core.Path.{◌≡◌, refl, ap, ◌∙◌}
@@ -78,6 +78,15 @@ begun_started p b = go (ltb 0 p && leb p 16) (ltb 0 b && leb b 65535)
 -- the pace's number is one of a refusal
 pub number_small : (P : List ℕ) (w : ℕ) {n : ℕ} → n ≡ may_number P w → n < 256
 number_small P w e = omega (arith, e, may_small P w)
+
+-- an answer that was asked with `is_err`
+pub refused_err : (x : Result Taken Refusal) {b : Bool} → b ≡ is_err x → b ≡ true → is_taken x ≡ false
+refused_err (Ok t) e d = no_way (cc)
+refused_err (Err r) e d = refl
+
+pub taken_ok : (x : Result Taken Refusal) {b : Bool} → b ≡ is_err x → b ≡ false → is_taken x ≡ true
+taken_ok (Ok t) e d = refl
+taken_ok (Err r) e d = no_way (cc)
 
 module _ (r : Run) (P : Pace) (w : ℕ) {t : Turned} (e : t ≡ turned r w) where
   pub refused_so : is_taken t.answer ≡ false → paced_turn t.answer t.run P ≡ paced_turned r P w

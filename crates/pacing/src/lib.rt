@@ -7,7 +7,7 @@ ghost use Rattle.table.specs.Pass.{refusal};
 ghost use Rattle.schedule.specs.declared.Report.TheVariants.{Refused as Stopped};
 ghost use Rattle.schedule.specs.Answers.{beginning_values, turning_values, report_values};
 ghost use Rattle.wivakkol_pace.specs.PacedRuns.{paced_worker};
-ghost use Rattle.pacing.specs.Pacing.{begin_pace, is_taken, paced_turn, paced_turned, paced_ran, paced_run, paced_list_run, paced_rounds_run};
+ghost use Rattle.pacing.specs.Pacing.{begin_pace, paced_turn, paced_turned, paced_ran, paced_run, paced_list_run, paced_rounds_run};
 ghost use Rattle.pacing.specs.PacedValues.{pace_values, paced_turn_values, paced_list_values, paced_rounds_values};
 
 use asyncdf::{report_of, turn};
@@ -65,15 +65,6 @@ pub fn begin_pace(p: u8, b: u32) -> PaceBegun
     }
 }
 
-fn is_taken(answer: Result<Taken, Refusal>) -> bool
-    ensures { result ≡ is_taken answer }
-{
-    match answer {
-        Ok(_) => true,
-        Err(_) => false,
-    }
-}
-
 // A turn that the pace does not let through: record and pace as they were.
 fn held_back(run: Run, pace: Pace, number: u8) -> PacedTurned
     ensures { result ≡ paced_turn (Err (refusal number 0)) run pace }
@@ -93,7 +84,7 @@ pub fn paced_turn(run: Run, pace: Pace, w: u8) -> PacedTurned
     let turned = turn(run, w);
     let answer = turned.answer;
     let after = turned.run;
-    if !is_taken(answer) {
+    if answer.is_err() {
         return PacedTurned {
             answer,
             run: after,
@@ -164,7 +155,7 @@ fn paced_run(run: Run, pace: Pace, order: &[u8], rounds: bool, limit: usize) -> 
         &mut sums,
         &mut counters,
     );
-    let report = report_of(stop.number as u8, stop.finished, stop.turns);
+    let report = report_of(stop.finished, stop.turns);
     let after = unpack(run, &bytes, &words, &numbers, &sums);
     PacedRan {
         report,

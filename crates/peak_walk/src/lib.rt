@@ -51,10 +51,7 @@ fn answer(
 {
     check_in(table, rises, falls)?;
     if 16 < load {
-        return Err(Refusal {
-            number: 20,
-            place: 0,
-        });
+        return Err(Refusal::new(20, 0));
     }
     *rises = [0; 1024];
     *peaks = [0; 17408];

@@ -48,14 +48,22 @@ pub record Foretold (r : Run) (w : ℕ) (x : Reply) (k h g q : ℕ) : Type 0 whe
   pub highest : (turned r w).run.highest ≡ g
   pub quota : (get_or (turned r w).run.worker w nobody).quota ≡ q
 
+same_ok : {f g : Foreseen} → ◌≡◌ {A = Result Foreseen Refusal} (Ok f) (Ok g) → f ≡ g
+same_ok e = cc (e)
+
 pub preview_taken : (r : Run) (w : ℕ) {x : Reply} {k h g q : ℕ} → preview_of r w ≡ would x k h g q → Foretold r w x k h g q
 unfolding preview_of
 preview_taken r w {x} {k} {h} {g} {q} e = go (turned r w).answer refl
   where
     go : (a : Result Taken Refusal) → (turned r w).answer ≡ a → Foretold r w x k h g q
     go (Ok t) i =
-        let d : preview_as (Ok t) (turned r w).run w ≡ would x k h g q = rw i at e in
-        record { answer = i ∙ (let u : t.reply ≡ x = cc in let v : t.passed ≡ k = cc in rw (u, v)); held = cc; highest = cc; quota = cc }
+        let p : ◌≡◌ {A = Foreseen} (record { reply = t.reply; passed = t.passed; held = (turned r w).run.held; highest = (turned r w).run.highest; quota = (get_or (turned r w).run.worker w nobody).quota }) (record { reply = x; passed = k; held = h; highest = g; quota = q }) = same_ok (rw i at e) in
+        record {
+          answer = i ∙ (λ j. taken_turn (p j).reply (p j).passed);
+          held = ap (λ (v : Foreseen). v.held) p;
+          highest = ap (λ (v : Foreseen). v.highest) p;
+          quota = ap (λ (v : Foreseen). v.quota) p;
+        }
     go (Err y) i = let d : Err y ≡ would x k h g q = rw i at e in no_way cc
 
 pub preview_refused : (r : Run) (w : ℕ) {x : Refusal} → preview_of r w ≡ Err x → ((turned r w).answer ≡ Err x) × ((turned r w).run ≡ r)

@@ -1,3 +1,4 @@
 pub mod Rest
 pub mod RowsLeft
 pub mod Whole
+pub mod Renamed

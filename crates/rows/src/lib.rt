@@ -3,13 +3,13 @@
 
 ghost use Rattle.std.specs.Prelude.{◌≡◌, ◌<◌};
 ghost use Rattle.table.specs.Sum.{Read};
-ghost use Rattle.table.specs.Format.{kind_of, bodies_of, first_of, count_of, threads_of, actions_of};
+ghost use Rattle.table.specs.Format.{bodies_of, first_of, count_of, threads_of, actions_of};
 ghost use Rattle.text.specs.Text.{buffer_at, placed};
 ghost use Rattle.text.specs.Puts.{put_all};
 ghost use Rattle.parts.specs.Copies.{renamed};
 ghost use Rattle.rows.specs.Rows.{cut_pair, cut_action, renamed_rows, named_by, moved_by, shifted_entries, ordered_entries, ordered_rows};
 
-use table::kinds::{FORK, JOIN};
+use table::kinds::Kind;
 use table::read::{action_in, actions, bodies, count, first, threads};
 use text::put_word;
 
@@ -53,13 +53,13 @@ fn name_of(names: &[u16], x: usize) -> usize
 }
 
 // An argument where threads have new numbers: forks and joins name threads.
-fn named(k: u8, x: usize, names: &[u16]) -> usize
-    ensures { result ≡ renamed (named_by names.now) (kind_of k) x }
+fn named(kind: Kind, x: usize, names: &[u16]) -> usize
+    ensures { result ≡ renamed (named_by names.now) kind x }
 {
-    if k == FORK {
-        return name_of(names, x);
+    match kind {
+        Kind::Fork | Kind::Join => name_of(names, x),
+        _ => x,
     }
-    if k == JOIN { name_of(names, x) } else { x }
 }
 
 // The actions of a body, with the threads' new numbers.
@@ -77,7 +77,7 @@ fn put_body(
     let mut at = at;
     for i in 0..count {
         let action = action_in(actions, first + i);
-        let x = named(action.code, action.argument, names);
+        let x = named(action.kind(), action.argument, names);
         at = put_action(out, at, action.code, x);
     }
     at
@@ -98,8 +98,8 @@ pub fn put_ordered(out: &mut [u8], at: usize, table: &[u8], order: &[u16]) -> us
 {
     let mut at = at;
     let mut before = 0;
-    for i in 0..order.len() {
-        let size = count(table, wide(order[i]));
+    for t in order {
+        let size = count(table, wide(*t));
         at = put_pair(out, at, before, size);
         before = (before + size) % 65536;
     }
@@ -112,21 +112,21 @@ pub fn put_bodies(out: &mut [u8], at: usize, table: &[u8], order: &[u16], names:
         ≡ put_all (buffer_at out.old at) (ordered_rows table.now (named_by names.now) order.now) }
 {
     let mut at = at;
-    for i in 0..order.len() {
-        at = put_named(out, at, table, wide(order[i]), names);
+    for t in order {
+        at = put_named(out, at, table, wide(*t), names);
     }
     at
 }
 
 // An argument where threads are moved up by o.
-fn moved(k: u8, x: usize, o: usize) -> usize
+fn moved(kind: Kind, x: usize, o: usize) -> usize
     requires { (x < 16777216) × (o < 65536) }
-    ensures { result ≡ renamed (moved_by o) (kind_of k) x }
+    ensures { result ≡ renamed (moved_by o) kind x }
 {
-    if k == FORK {
-        return o + x;
+    match kind {
+        Kind::Fork | Kind::Join => o + x,
+        _ => x,
     }
-    if k == JOIN { o + x } else { x }
 }
 
 fn put_actions(out: &mut [u8], at: usize, actions: &[u8], count: usize, o: usize) -> usize
@@ -136,7 +136,7 @@ fn put_actions(out: &mut [u8], at: usize, actions: &[u8], count: usize, o: usize
     let mut at = at;
     for i in 0..count {
         let action = action_in(actions, i);
-        let x = moved(action.code, action.argument, o);
+        let x = moved(action.kind(), action.argument, o);
         at = put_action(out, at, action.code, x);
     }
     at

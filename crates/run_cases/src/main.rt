@@ -33,7 +33,7 @@ fn long_length(rt: &HostRuntime) -> io::Result<usize> {
 fn within(k: usize, buffer: &[u8]) -> usize
     ensures { IsPrefixLen result buffer.now }
 {
-    if k <= buffer.len() { k } else { buffer.len() }
+    k.min(buffer.len())
 }
 
 // Copies a label that fills the buffer to the output.
@@ -74,16 +74,12 @@ fn pairs(rt: &HostRuntime, input: &[u8]) -> io::Result<()> {
 // Reads an input that fills the buffer and prints its answer.
 fn answer(rt: &HostRuntime, sort: u8, buffer: &mut [u8]) -> io::Result<()> {
     let n = read_full(&mut rt.stdin(), buffer)?;
-    if sort == b't' {
-        turns(rt, &buffer[..n])?;
-    } else if sort == b'w' {
-        chart(rt, &buffer[..n])?;
-    } else if sort == b'd' {
-        pairs(rt, &buffer[..n])?;
-    } else {
-        rounds(rt, &buffer[..n])?;
+    match sort {
+        b't' => turns(rt, &buffer[..n]),
+        b'w' => chart(rt, &buffer[..n]),
+        b'd' => pairs(rt, &buffer[..n]),
+        _ => rounds(rt, &buffer[..n]),
     }
-    Ok(())
 }
 
 // One record, and whether there was one.
@@ -104,9 +100,10 @@ fn one(rt: &HostRuntime) -> io::Result<bool> {
 }
 
 fn main(rt: HostRuntime) -> io::Result<()> {
-    let mut left: u32 = 1000;
-    while 0 < left && one(&rt)? {
-        left -= 1;
+    for _ in 0..1000 {
+        if !one(&rt)? {
+            return Ok(());
+        }
     }
     Ok(())
 }

@@ -15,7 +15,7 @@ pub fn copy_row(words: &mut [u16; 6163], k: usize, from: &[u16; 1024])
     ensures { words_in words.new ≡ laid_row k from.now (words_in words.old) }
 {
     if k < 6 {
-        copy_words(from, 0, words, 1024 * k, 1024);
+        copy(from, 0, words, 1024 * k, 1024);
     }
 }
 
@@ -23,32 +23,32 @@ pub fn row_out(words: &[u16; 6163], k: usize, to: &mut [u16; 1024])
     ensures { to.new ≡ pick (ltb k 6) ((words_in words.now).rows k) to.old }
 {
     if k < 6 {
-        copy_words(words, 1024 * k, to, 0, 1024);
+        copy(words, 1024 * k, to, 0, 1024);
     }
 }
 
 pub fn copy_statuses(bytes: &mut [u8; 1040], from: &[u8; 1024])
     ensures { bytes_in bytes.new ≡ statuses from.now (bytes_in bytes.old) }
 {
-    copy_bytes(from, bytes, 1024);
+    copy(from, 0, bytes, 0, 1024);
 }
 
 pub fn statuses_out(bytes: &[u8; 1040], to: &mut [u8; 1024])
     ensures { to.new ≡ (bytes_in bytes.now).status }
 {
-    copy_bytes(bytes, to, 1024);
+    copy(bytes, 0, to, 0, 1024);
 }
 
 pub fn copy_amounts(sums: &mut [u64; 1027], from: &[u64; 1024])
     ensures { sums_in sums.new ≡ amounts_are from.now (sums_in sums.old) }
 {
-    copy_sums(from, sums, 1024);
+    copy(from, 0, sums, 0, 1024);
 }
 
 pub fn amounts_out(sums: &[u64; 1027], to: &mut [u64; 1024])
     ensures { to.new ≡ (sums_in sums.now).amounts }
 {
-    copy_sums(sums, to, 1024);
+    copy(sums, 0, to, 0, 1024);
 }
 
 // The workers' records.
@@ -79,35 +79,13 @@ pub fn workers_out(bytes: &[u8; 1040], words: &[u16; 6163], numbers: &[u32; 18])
     workers
 }
 
-// n numbers copied, of each width, between parts whose lengths are known; the words from a place of one to a place of the other, the others from front to front.
-fn copy_words(from: &[u16], start: usize, to: &mut [u16], at: usize, n: usize)
+// n numbers copied, from a place of one part to a place of the other.
+fn copy<T: Copy>(from: &[T], start: usize, to: &mut [T], at: usize, n: usize)
     requires n_in_bounds { start + n ≤ length from.now }
     requires n_in_bounds_2 { at + n ≤ length to.old }
     ensures { to.new ≡ paste to.old at (drop start from.now) n }
 {
-    for i in 0..n {
-        to[at + i] = from[start + i];
-    }
-}
-
-fn copy_bytes(from: &[u8], to: &mut [u8], n: usize)
-    requires n_in_bounds { n ≤ length from.now }
-    requires n_in_bounds_2 { n ≤ length to.old }
-    ensures { to.new ≡ paste to.old 0 from.now n }
-{
-    for i in 0..n {
-        to[i] = from[i];
-    }
-}
-
-fn copy_sums(from: &[u64], to: &mut [u64], n: usize)
-    requires n_in_bounds { n ≤ length from.now }
-    requires n_in_bounds_2 { n ≤ length to.old }
-    ensures { to.new ≡ paste to.old 0 from.now n }
-{
-    for i in 0..n {
-        to[i] = from[i];
-    }
+    to[at..at + n].copy_from_slice(&from[start..start + n]);
 }
 
 // The workers' records, on blocks whose lengths are known.

@@ -44,51 +44,32 @@ fn label(rt: &HostRuntime, buffer: &mut [u8]) -> io::Result<()> {
     rt.stdout().write_all(b": ")
 }
 
-// Reads a table that fills the buffer and prints its answer.
-fn table_answer(rt: &HostRuntime, buffer: &mut [u8]) -> io::Result<()> {
+// The line that a program prints for an input, and its length.
+fn answer_line(program: u8, input: &[u8], line: &mut [u8; 80]) -> usize
+    ensures { IsPrefixLen result line.new }
+{
+    match program {
+        b'q' => quota::quota_line(input, line),
+        b'l' => most::turns_line(input, line),
+        b'f' => useful_limit::fit_line(input, line),
+        b'd' => deque_limit::choice_line(input, line),
+        _ => text::facts_line(facts::load(input), line),
+    }
+}
+
+// Reads an input that fills the buffer and prints its answer.
+fn answer(rt: &HostRuntime, program: u8, buffer: &mut [u8]) -> io::Result<()> {
     let n = read_full(&mut rt.stdin(), buffer)?;
     let mut line = [0u8; 80];
-    let k = text::facts_line(facts::load(&buffer[..n]), &mut line);
+    let k = answer_line(program, &buffer[..n], &mut line);
     rt.stdout().write_all(&line[..k])
 }
 
-// The same of an input of `maxquota`.
-fn quota_answer(rt: &HostRuntime, buffer: &mut [u8]) -> io::Result<()> {
-    let n = read_full(&mut rt.stdin(), buffer)?;
-    let mut line = [0u8; 80];
-    let k = quota::quota_line(&buffer[..n], &mut line);
-    rt.stdout().write_all(&line[..k])
-}
-
-// The same of an input of `maxturns`.
-fn turns_answer(rt: &HostRuntime, buffer: &mut [u8]) -> io::Result<()> {
-    let n = read_full(&mut rt.stdin(), buffer)?;
-    let mut line = [0u8; 80];
-    let k = most::turns_line(&buffer[..n], &mut line);
-    rt.stdout().write_all(&line[..k])
-}
-
-// The same of an input of `memlimit`.
+// The same of an input of `memlimit`, whose line is longer.
 fn limit_answer(rt: &HostRuntime, buffer: &mut [u8]) -> io::Result<()> {
     let n = read_full(&mut rt.stdin(), buffer)?;
     let mut line = [0u8; 160];
     let k = useful_limit::limit_line(&buffer[..n], &mut line);
-    rt.stdout().write_all(&line[..k])
-}
-
-// The same of an input of `fitquota`.
-fn fit_answer(rt: &HostRuntime, buffer: &mut [u8]) -> io::Result<()> {
-    let n = read_full(&mut rt.stdin(), buffer)?;
-    let mut line = [0u8; 80];
-    let k = useful_limit::fit_line(&buffer[..n], &mut line);
-    rt.stdout().write_all(&line[..k])
-}
-
-// The same of an input of `dequelimit`.
-fn choice_answer(rt: &HostRuntime, buffer: &mut [u8]) -> io::Result<()> {
-    let n = read_full(&mut rt.stdin(), buffer)?;
-    let mut line = [0u8; 80];
-    let k = deque_limit::choice_line(&buffer[..n], &mut line);
     rt.stdout().write_all(&line[..k])
 }
 
@@ -105,26 +86,18 @@ fn one(rt: &HostRuntime) -> io::Result<bool> {
     let length = long_length(rt)?;
     let mut bytes = streams::large_buffer();
     let n = within(length, &bytes);
-    if program == b'q' {
-        quota_answer(rt, &mut bytes[..n])?;
-    } else if program == b'l' {
-        turns_answer(rt, &mut bytes[..n])?;
-    } else if program == b'm' {
-        limit_answer(rt, &mut bytes[..n])?;
-    } else if program == b'f' {
-        fit_answer(rt, &mut bytes[..n])?;
-    } else if program == b'd' {
-        choice_answer(rt, &mut bytes[..n])?;
-    } else {
-        table_answer(rt, &mut bytes[..n])?;
+    match program {
+        b'm' => limit_answer(rt, &mut bytes[..n])?,
+        _ => answer(rt, program, &mut bytes[..n])?,
     }
     Ok(true)
 }
 
 fn main(rt: HostRuntime) -> io::Result<()> {
-    let mut left: u32 = 1000;
-    while 0 < left && one(&rt)? {
-        left -= 1;
+    for _ in 0..1000 {
+        if !one(&rt)? {
+            break;
+        }
     }
     Ok(())
 }

@@ -19,12 +19,9 @@ pub fn put_word(out: &mut [u8], at: usize, word: &[u8]) -> usize
     if out.len() - at < word.len() {
         return at;
     }
-    let mut i = 0;
-    while i < word.len() {
-        out[at + i] = word[i];
-        i += 1;
-    }
-    at + i
+    let end = at + word.len();
+    out[at..end].copy_from_slice(word);
+    end
 }
 
 // The same for a number in decimal.

@@ -1,6 +1,6 @@
 -- What a beginning in lent memory leaves: more workers than there may be are refused as 17 are; the memory of each case; and when there is room.
-use Rattle.std.specs.Prelude.{Err, Ok}
-use mathlib.Core.Path.{◌≡◌, sym, ap, ◌∙◌}
+use Rattle.std.specs.Prelude.{Err, Ok, Result, ⊤}
+use mathlib.Core.Path.{◌≡◌, refl, sym, ap, ◌∙◌}
 use Prim.Native.Nat.{ℕ, min, ◌≤◌, ◌<◌}
 use native.Mathlib.Decide.{dec_lt}
 use native.Mathlib.Nat.{min-eq_left, min-eq_right}
@@ -17,13 +17,14 @@ use Rattle.table.specs.Pass.{refusal, first_found, try_at, try_from, try_pass}
 use Rattle.table.specs.Checks.{passes}
 use Rattle.table.specs.declared.Refusal.{Refusal}
 use Rattle.table.proofs.Passes.{first_found_append}
+use Rattle.table.proofs.Tests.{no_way}
 use Rattle.schedule.specs.Machine.{ready}
 use Rattle.schedule.specs.Links.{no_thread}
 use Rattle.schedule.specs.Begin.{setting_passes, begin_passes}
-use Rattle.filling.specs.declared.Filling.{Filling}
 use Rattle.filling.specs.Filled.{filled_out, fill_pass}
+use Rattle.filling.specs.Filling.{answer_as}
 use Rattle.order.specs.Words.{is_nothing}
-use Rattle.soundness.specs.Tested.{parents_if, next_if, begin_found, begin_filling, begins, begun_into}
+use Rattle.soundness.specs.Tested.{Filling, parents_if, next_if, begin_found, begin_filling, begin_answer, begins, begun_into}
 use Rattle.array_machine.specs.Arrays.{arrays}
 use Rattle.run_memory.specs.Memory.{memory, answer}
 use Rattle.wivakkol.specs.Lent.{blank_memory, no_room, lent_begin}
@@ -67,17 +68,33 @@ module _ (s : List ℕ) (p K : ℕ) {w : ℕ} (h : w ≡ min p 17) where
   pub handed_into : (out : List ℕ) → begun_into s w K out ≡ begun_into s p K out
   handed_into out = rw handed
 
-  module _ (room : ℕ) {f : Filling} (d : f ≡ begin_filling s w K) where
-    pub found_is : f.found ≡ begin_found s p K
-    unfolding begin_filling
-    found_is = ap (λ (x : Filling). x.found) (d ∙ handed_filling)
+  module _ (room : ℕ) {r : Result ℕ Refusal} (d : r ≡ begin_answer s w K) where
+    abbrev f : Filling
+    f = begin_filling s p K
 
-    bytes_are : f.bytes ≡ (begin_filling s p K).bytes
-    bytes_are = ap (λ (x : Filling). x.bytes) (d ∙ handed_filling)
+    answer_is : r ≡ answer_as f.found f.bytes
+    answer_is = d ∙ ap (λ (x : Filling). answer_as x.found x.bytes) handed_filling
+
+    failed : {x : Refusal} → r ≡ Err x → f.found ≡ Err x
+    failed {x} e = go f.found (sym e ∙ answer_is)
+      where
+        go : (y : Result ⊤ Refusal) → Err x ≡ answer_as y f.bytes → y ≡ Err x
+        go (Ok _) q = no_way (cc (q))
+        go (Err z) q = cc (q)
+
+    passed : {k : ℕ} → r ≡ Ok k → (f.found ≡ Ok tt) × (k ≡ f.bytes)
+    passed {k} e = go f.found (sym e ∙ answer_is)
+      where
+        go : (y : Result ⊤ Refusal) → Ok k ≡ answer_as y f.bytes → (y ≡ Ok tt) × (k ≡ f.bytes)
+        go (Ok _) q = (refl, cc (q))
+        go (Err z) q = no_way (cc (q))
+
+    found_is : f.found ≡ begin_found s p K
+    unfolding begin_filling
+    found_is = refl
 
     begins_is : begins s w K room ≡ is_nothing f.found && leb f.bytes room
-    unfolding begin_filling
-    begins_is = rw d
+    begins_is = rw (handed, handed_filling, found_is)
 
     module _ {next parents holds threads quotas heads totals : List ℕ}
         (n : next ≡ next_if (begins s w K room) (table_of (filled_out s K))) (q : parents ≡ parents_if (begins s w K room) (table_of (filled_out s K))) (z : Cleared holds threads quotas heads totals) where
@@ -90,28 +107,33 @@ module _ (s : List ℕ) (p K : ℕ) {w : ℕ} (h : w ≡ min p 17) where
           λ i. answer number row (memory (0 ∷ 0 ∷ []) (q' i) (arrays (n' i) (replicate 1024 0) (replicate 1024 0) (l.0.0 i) (l.0.1 i) (l.1.0 i) (l.1.1 i))
           (z.0.0 i) (z.0.1 i) (z.0.2 i) (z.1.0 i) (z.1.1 i))
 
-      pub refuses : {x : Refusal} {left right under over : List ℕ} → f.found ≡ Err x → Linked 0 left right under over
+      pub refuses : {x : Refusal} {left right under over : List ℕ} → r ≡ Err x → Linked 0 left right under over
           → answer x.number (x.place ∷ 0 ∷ []) (memory (0 ∷ 0 ∷ []) parents (arrays next (replicate 1024 0) (replicate 1024 0) left right under over) holds threads quotas heads totals)
           ≡ lent_begin s p K room
-      unfolding lent_begin begin_filling
+      unfolding lent_begin
       refuses {x} e l =
-          let g : begin_found s p K ≡ Err x = sym found_is ∙ e in
-          nothing_there (begins_is ∙ rw e) l ∙ rw g
+          let g : f.found ≡ Err x = failed e in
+          nothing_there (begins_is ∙ rw g) l ∙ rw g
 
-      pub lacks : {left right under over : List ℕ} → f.found ≡ Ok tt → room < f.bytes → Linked 0 left right under over
-          → answer no_room (0 ∷ f.bytes ∷ []) (memory (0 ∷ 0 ∷ []) parents (arrays next (replicate 1024 0) (replicate 1024 0) left right under over) holds threads quotas heads totals)
+      pub lacks : {k : ℕ} {left right under over : List ℕ} → r ≡ Ok k → room < k → Linked 0 left right under over
+          → answer no_room (0 ∷ k ∷ []) (memory (0 ∷ 0 ∷ []) parents (arrays next (replicate 1024 0) (replicate 1024 0) left right under over) holds threads quotas heads totals)
           ≡ lent_begin s p K room
       unfolding lent_begin
-      lacks e m l = nothing_there (begins_is ∙ rw (e, lt-leb f.bytes room m)) l ∙ rw (sym (d ∙ handed_filling), e, lt-ltb room f.bytes m)
+      lacks {k} e m l =
+          let g = passed e in
+          let h : room < f.bytes = omega (arith, g.1, m) in
+          nothing_there (begins_is ∙ rw (g.0, lt-leb f.bytes room h)) l ∙ rw (g.0, lt-ltb room f.bytes h, g.1)
 
-      pub starts : {left right under over : List ℕ} → f.found ≡ Ok tt → f.bytes ≤ room → Linked no_thread left right under over
-          → answer 0 (0 ∷ f.bytes ∷ []) (memory (p ∷ K ∷ []) parents (arrays next (set (replicate 1024 0) 0 ready) (replicate 1024 0) left right under over) holds threads quotas heads totals)
+      pub starts : {k : ℕ} {left right under over : List ℕ} → r ≡ Ok k → k ≤ room → Linked no_thread left right under over
+          → answer 0 (0 ∷ k ∷ []) (memory (p ∷ K ∷ []) parents (arrays next (set (replicate 1024 0) 0 ready) (replicate 1024 0) left right under over) holds threads quotas heads totals)
           ≡ lent_begin s p K room
       unfolding lent_begin
-      starts e m l =
-          let b : begins s w K room ≡ true = begins_is ∙ rw (e, le-leb f.bytes room m) in
+      starts {k} e m l =
+          let g = passed e in
+          let h : f.bytes ≤ room = omega (arith, g.1, m) in
+          let b : begins s w K room ≡ true = begins_is ∙ rw (g.0, le-leb f.bytes room h) in
           let n' = n ∙ ap (λ (x : Bool). next_if x (table_of (filled_out s K))) b in
           let q' = q ∙ ap (λ (x : Bool). parents_if x (table_of (filled_out s K))) b in
-          (λ i. answer 0 (0 ∷ f.bytes ∷ []) (memory (p ∷ K ∷ []) (q' i) (arrays (n' i) (set (replicate 1024 0) 0 ready) (replicate 1024 0) (l.0.0 i) (l.0.1 i) (l.1.0 i) (l.1.1 i))
+          (λ i. answer 0 (0 ∷ k ∷ []) (memory (p ∷ K ∷ []) (q' i) (arrays (n' i) (set (replicate 1024 0) 0 ready) (replicate 1024 0) (l.0.0 i) (l.0.1 i) (l.1.0 i) (l.1.1 i))
           (z.0.0 i) (z.0.1 i) (z.0.2 i) (z.1.0 i) (z.1.1 i)))
-          ∙ rw (sym (d ∙ handed_filling), e, le-ltb room f.bytes m)
+          ∙ rw (g.0, le-ltb room f.bytes h, g.1)

@@ -12,7 +12,7 @@ use Rattle.table.specs.declared.Refusal.{Refusal}
 use Rattle.filling.specs.Filled.{fill_pass}
 use Rattle.useful_limit.specs.declared.Numbers.{Numbers}
 use Rattle.useful_limit.specs.declared.Fitted.{Fitted}
-use Rattle.useful_limit.specs.declared.Fitted.TheVariants.{Fits, Short, Refused}
+use Rattle.useful_limit.specs.declared.Fitted.TheVariants.{Fits, Short}
 use Rattle.useful_limit.specs.Limits.{gap_check, quota_check, limit_passes, limits, limits_in, limits_into}
 use Rattle.useful_limit.specs.Fit.{fit_passes, fitted}
 use Rattle.useful_limit.proofs.Settings.{many_fault, many_found}
@@ -48,7 +48,7 @@ module _ (s : List ℕ) (b M : ℕ) where
   unfolding fitted
   fit_17 p h = rw (fit_found p h, fit_found 17 (omega arith)) refl
 
-  pub fit_handed : (p : ℕ) {w : ℕ} {a : Fitted} → w ≡ min p 17 → a ≡ fitted s w b M → a ≡ fitted s p b M
+  pub fit_handed : (p : ℕ) {w : ℕ} {a : Result Fitted Refusal} → w ≡ min p 17 → a ≡ fitted s w b M → a ≡ fitted s p b M
   fit_handed p d e = e ∙ ap (λ (x : ℕ). fitted s x b M) d ∙ as_handed (λ (x : ℕ). fitted s x b M) fit_17 p
 
 -- ---- the rows
@@ -60,12 +60,12 @@ module _ {a y : Result Numbers Refusal} (e : a ≡ y) where
   pub limit_refused : {r : Refusal} → a ≡ Err r → (r.number ≡ limit_number y) × ((r.place ∷ 0 ∷ 0 ∷ 0 ∷ 0 ∷ 0 ∷ []) ≡ limit_row y)
   limit_refused g = rw (← e, g) (refl, refl)
 
-module _ {a y : Fitted} (e : a ≡ y) where
-  pub fit_fits : {K X : ℕ} → a ≡ Fits K X → (0 ≡ fit_number y) × ((0 ∷ 1 ∷ K ∷ X ∷ []) ≡ fit_row y)
+module _ {a y : Result Fitted Refusal} (e : a ≡ y) where
+  pub fit_fits : {K X : ℕ} → a ≡ Ok (Fits K X) → (0 ≡ fit_number y) × ((0 ∷ 1 ∷ K ∷ X ∷ []) ≡ fit_row y)
   fit_fits g = rw (← e, g) (refl, refl)
 
-  pub fit_short : {K X : ℕ} → a ≡ Short K X → (0 ≡ fit_number y) × ((0 ∷ 0 ∷ K ∷ X ∷ []) ≡ fit_row y)
+  pub fit_short : {K X : ℕ} → a ≡ Ok (Short K X) → (0 ≡ fit_number y) × ((0 ∷ 0 ∷ K ∷ X ∷ []) ≡ fit_row y)
   fit_short g = rw (← e, g) (refl, refl)
 
-  pub fit_refused : {r : Refusal} → a ≡ Refused r → (r.number ≡ fit_number y) × ((r.place ∷ 0 ∷ 0 ∷ 0 ∷ []) ≡ fit_row y)
+  pub fit_refused : {r : Refusal} → a ≡ Err r → (r.number ≡ fit_number y) × ((r.place ∷ 0 ∷ 0 ∷ 0 ∷ []) ≡ fit_row y)
   fit_refused g = rw (← e, g) (refl, refl)

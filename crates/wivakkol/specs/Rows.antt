@@ -8,7 +8,7 @@ use Rattle.table.specs.Load.{TableValues}
 use Rattle.quota.specs.Quota.{QuotaValues}
 use Rattle.most.specs.Most.{MostValues}
 use Rattle.useful_limit.specs.declared.Fitted.{Fitted}
-use Rattle.useful_limit.specs.declared.Fitted.TheVariants.{Fits, Short, Refused}
+use Rattle.useful_limit.specs.declared.Fitted.TheVariants.{Fits, Short}
 
 -- of a table: the place, n, m, S1, D and N
 abbrev pub facts_row : TableValues → List ℕ
@@ -32,12 +32,11 @@ limit_row (Ok x) = 0 ∷ x.memory ∷ x.serial ∷ x.peak ∷ x.parallel ∷ x.s
 limit_row (Err r) = r.place ∷ 0 ∷ 0 ∷ 0 ∷ 0 ∷ 0 ∷ []
 
 -- of the quota that fits: the place, 1 if one fits, the quota and the memory that it needs
-abbrev pub fit_number : Fitted → ℕ
-fit_number (Fits K X) = 0
-fit_number (Short K X) = 0
-fit_number (Refused r) = r.number
+abbrev pub fit_number : Result Fitted Refusal → ℕ
+fit_number (Ok x) = 0
+fit_number (Err r) = r.number
 
-abbrev pub fit_row : Fitted → List ℕ
-fit_row (Fits K X) = 0 ∷ 1 ∷ K ∷ X ∷ []
-fit_row (Short K X) = 0 ∷ 0 ∷ K ∷ X ∷ []
-fit_row (Refused r) = r.place ∷ 0 ∷ 0 ∷ 0 ∷ []
+abbrev pub fit_row : Result Fitted Refusal → List ℕ
+fit_row (Ok (Fits K X)) = 0 ∷ 1 ∷ K ∷ X ∷ []
+fit_row (Ok (Short K X)) = 0 ∷ 0 ∷ K ∷ X ∷ []
+fit_row (Err r) = r.place ∷ 0 ∷ 0 ∷ 0 ∷ []

@@ -45,7 +45,7 @@ fn put_links(
     *over = [x; 1024];
 }
 
-// Too little room for the filled-out table.
+// Too little room for the filled-out table: C is answered this number.
 const NO_ROOM: u32 = 61;
 
 // Begins a run, or gives the check that refuses; the memory is then that of the blank record. Where an alloc is above the quota, the filled-out table is put into `filled`, and is the one that
@@ -84,7 +84,7 @@ pub fn wivakkol_begin_on(
     *status = [0; 1024];
     put_nobody(holds, threads, quotas, heads, totals);
     let room = filled.len();
-    let filling = accept_in(
+    let begun = accept_in(
         table,
         workers(p),
         quota,
@@ -94,22 +94,24 @@ pub fn wivakkol_begin_on(
         rises,
         falls,
     );
-    let found = filling.found;
-    if let Err(x) = found {
-        *settings = [0, 0];
-        put_links(left, right, under, over, 0);
-        *row = [x.place as u64, 0];
-        return x.number as u32;
+    match begun {
+        Ok(bytes) => {
+            *row = [0, bytes as u64];
+            if room < bytes {
+                *settings = [0, 0];
+                put_links(left, right, under, over, 0);
+                return NO_ROOM;
+            }
+            *settings = [p, quota];
+            put_links(left, right, under, over, NO_THREAD);
+            status[0] = READY;
+            0
+        }
+        Err(x) => {
+            *settings = [0, 0];
+            put_links(left, right, under, over, 0);
+            *row = [x.place as u64, 0];
+            x.number as u32
+        }
     }
-    if room < filling.bytes {
-        *settings = [0, 0];
-        put_links(left, right, under, over, 0);
-        *row = [0, filling.bytes as u64];
-        return NO_ROOM;
-    }
-    *settings = [p, quota];
-    put_links(left, right, under, over, NO_THREAD);
-    status[0] = READY;
-    *row = [0, filling.bytes as u64];
-    0
 }

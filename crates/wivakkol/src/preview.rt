@@ -6,23 +6,22 @@ ghost use Rattle.wivakkol.specs.Preview.{preview, lent_preview};
 
 use run_memory::preview::{Foreseen, preview_in};
 use run_memory::replies::put_reply;
-use schedule::Reply;
 
 // What the turn would say, and memory held, its highest and the quota left after it.
-fn put_preview(row: &mut [u64; 8], reply: Reply, passed: u16, held: u64, highest: u64, quota: u32)
-    ensures { row.new ≡ reply_row reply passed ++ (held ∷ highest ∷ quota ∷ []) }
+fn put_preview(row: &mut [u64; 8], x: Foreseen)
+    ensures { row.new ≡ reply_row x.reply x.passed ++ (x.held ∷ x.highest ∷ x.quota ∷ []) }
 {
     let mut said: [u64; 5] = [0; 5];
-    put_reply(&mut said, reply, passed);
+    put_reply(&mut said, x.reply, x.passed);
     *row = [
         said[0],
         said[1],
         said[2],
         said[3],
         said[4],
-        held,
-        highest,
-        quota as u64,
+        x.held,
+        x.highest,
+        x.quota as u64,
     ];
 }
 
@@ -38,19 +37,14 @@ pub fn wivakkol_preview_on(
 ) -> u32
     ensures { preview result row.new ≡ lent_preview table.now w (memory_of bytes.now words.now numbers.now sums.now) }
 {
-    *row = [0; 8];
-    let foreseen = preview_in(table, w, bytes, words, numbers, sums);
-    match foreseen {
-        Foreseen::Would {
-            reply,
-            passed,
-            held,
-            highest,
-            quota,
-        } => {
-            put_preview(row, reply, passed, held, highest, quota);
+    match preview_in(table, w, bytes, words, numbers, sums) {
+        Ok(x) => {
+            put_preview(row, x);
             0
         }
-        Foreseen::Refused(number) => number,
+        Err(number) => {
+            *row = [0; 8];
+            number
+        }
     }
 }

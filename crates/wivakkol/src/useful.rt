@@ -69,15 +69,15 @@ pub fn wivakkol_fit_on(
         table, w, b, memory, rises, falls, serials, depths, peaks, rows,
     );
     match answer {
-        Fitted::Fits { quota, memory } => {
+        Ok(Fitted::Fits { quota, memory }) => {
             *row = [0, 1, quota as u64, memory];
             0
         }
-        Fitted::Short { quota, memory } => {
+        Ok(Fitted::Short { quota, memory }) => {
             *row = [0, 0, quota as u64, memory];
             0
         }
-        Fitted::Refused(r) => {
+        Err(r) => {
             *row = [r.place as u64, 0, 0, 0];
             r.number as u32
         }

@@ -24,12 +24,14 @@ pub fn wivakkol_deque_turn_on(
     ensures { answer result row.new (memory_of bytes.new words.new numbers.new sums.new)
         ≡ lent_deque_turn table.now w c (memory_of bytes.old words.old numbers.old sums.old) }
 {
-    let told = deque_turn_in(table, w, c, bytes, words, numbers, sums);
-    if told.number != 0 {
-        *row = [0; 5];
-        return told.number;
+    match deque_turn_in(table, w, c, bytes, words, numbers, sums) {
+        Ok(reply) => {
+            put_reply(row, reply, 0);
+            0
+        }
+        Err(number) => {
+            *row = [0; 5];
+            number
+        }
     }
-    let reply = told.reply;
-    put_reply(row, reply, 0);
-    0
 }

@@ -1,5 +1,5 @@
 -- Marks to come back to (N11), in lent memory, whatever it holds: setting one, going back to one, clearing them.
-use Rattle.std.specs.Prelude.{◌≡◌, ℕ, zero, suc, ◌*◌, List, [], ◌∷◌, Bool, not, ◌&&◌, ◌||◌, get_or, set, replicate, ltb, eqb, ⊤, Result, Ok, Err}
+use Rattle.std.specs.Prelude.{◌≡◌, ℕ, zero, suc, ◌*◌, List, [], ◌∷◌, Bool, not, ◌&&◌, ◌||◌, get_or, set, replicate, ltb, eqb}
 use Rattle.table.specs.Sum.{pick}
 use Rattle.order.specs.Words.{all_below}
 use Rattle.run_memory.specs.Memory.{Memory, memory}
@@ -67,11 +67,6 @@ pub record Setting : Type 0 where
 
 abbrev pub setting : ℕ → Marks → Setting
 setting number K = record { number = number; marks = K }
-
--- the number that C is answered: of a refusal, or 0
-abbrev pub number_in : Result ⊤ ℕ → ℕ
-number_in (Ok _) = 0
-number_in (Err n) = n
 
 -- "Setting one stores the run as it is"; "Setting again replaces". Refused: the marks as they were
 unfoldable pub lent_mark : List ℕ → ℕ → Memory → Marks → Setting

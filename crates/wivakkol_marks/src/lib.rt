@@ -3,14 +3,18 @@
 #![tactic(auto)]
 
 ghost use Rattle.std.specs.Prelude.{◌≡◌, not, ◌||◌, ◌<◌, length, replicate};
+ghost use Rattle.run_memory.specs.Memory.{number_in};
 ghost use Rattle.run_memory.specs.Blocks.{memory_of};
-ghost use Rattle.wivakkol_marks.specs.LentMarks.{number_in, marks_of, is_set_in, mark_in, fit_in, fit_marks, fit_marked, setting, lent_mark, going, lent_back, Cleared};
+ghost use Rattle.wivakkol_marks.specs.LentMarks.{marks_of, is_set_in, mark_in, fit_in, fit_marks, fit_marked, setting, lent_mark, going, lent_back, Cleared};
 
 use crate::copies::{load, note, store};
 use crate::standing::{fit, reopen};
 
 mod copies;
 mod standing;
+
+// The working memory goes from call to call as C lends it, array by array: a struct of fourteen `&mut` needs a clause for each of them in every function that takes it.
+// The refusals are numbers: C is answered these.
 
 // "record not sound and not blank", of the run or of a set mark
 const UNSOUND: u32 = 32;
@@ -96,6 +100,7 @@ fn fit_marks(
 ) -> bool
     ensures { result ≡ fit_marks table.now (marks_of set.now markbytes.now markwords.now marknumbers.now marksums.now) }
 {
+    // `i` is a mark, the i-th stretch of four blocks, and no item of a slice.
     for i in 0..8 {
         let fits = fit_mark(
             i,
@@ -472,6 +477,7 @@ pub fn wivakkol_mark_on(
     number_of(marked)
 }
 
+// A call beside `wivakkol_mark_on`: C lends here what that one writes to be read, and the other way round.
 // Goes back to mark i, and opens the run that it keeps; or gives the check that refuses, and the run is then as it was. The working memory is left cleared.
 pub fn wivakkol_back_on(
     table: &[u8],

@@ -21,6 +21,7 @@ use Rattle.filling.specs.Filled.{filled_out}
 use Rattle.order.proofs.Lists.{filled_front}
 use Rattle.schedule.specs.declared.Run.{Run}
 use Rattle.schedule.specs.declared.Begun.{Begun}
+use Rattle.schedule.specs.declared.Reply.{Reply}
 use Rattle.schedule.specs.declared.Reply.TheVariants.{Done}
 use Rattle.schedule.specs.Machine.{Stepped}
 use Rattle.schedule.specs.Record.{max_bytes, table_in, state_of}
@@ -46,7 +47,7 @@ use Rattle.claims.proofs.Shaped.{Shaped}
 use Rattle.claims.proofs.Sizes.{begin_shaped, call_shaped}
 use Rattle.workers.specs.Real.{Effect, nothing, effect_by, none, Real, no_memory, by_turn, by_work}
 use Rattle.workers.specs.Workers.{Event, turn, work, Workers, starting, effect_in, after_event, after_events, MayCome, Orderly, calls_of, in_turn}
-use Rattle.workers.proofs.RealMemory.{RealMemory, real_memory}
+use Rattle.workers.proofs.RealMemory.{RealMemory, real_memory, taken_reply}
 use Rattle.workers.proofs.InTurn.{in_turn_orderly}
 use Rattle.worker_claims.proofs.ActionSays.{KindSays, ArgumentSays, kind_is, argument_is, kind_says, argument_says, said_in, thread_in, action_in, read_in, refused_silent, done_read, other_nothing}
 use Rattle.worker_claims.proofs.WorkersByValue.{DefinedWork}
@@ -87,7 +88,7 @@ action_there r h w t a k q = go (try_at (turn_checks r w) 0) refl q
     go : (f : Result ⊤ Refusal) → try_at (turn_checks r w) 0 ≡ f → (turned_as f r (passed_in r w) (step_run r w)).answer ≡ taken_turn (Done t a) k → a < (table_in r).actions
     go (Ok _) e i =
         let b : w < r.workers = ltb-true w r.workers (not-false _ ((try_at_nothing (turn_checks r w) 0).0 e).1.0) in
-        at (tried (table_in r) (steady_lawful r h) r.workers r.quota (steady_fits r h).few_workers w b (state_of r) (steady_facts r h)) (cc)
+        at (tried (table_in r) (steady_lawful r h) r.workers r.quota (steady_fits r h).few_workers w b (state_of r) (steady_facts r h)) (taken_reply (step_run r w).reply (Done t a) (passed_in r w) k i)
     go (Err y) e i = no_way (cc)
 
 module _ (u : List ℕ) (M : Memory) (h : Stands u M) (w : ℕ) where
@@ -112,7 +113,7 @@ module _ (u : List ℕ) (M : Memory) (h : Stands u M) (w : ℕ) where
           → read_in u (lent_turn u w M) ≡ effect_in (table_in (run_in u M)) x
       go (Ok y) e r q =
           let there : (t a : ℕ) → y.reply ≡ Done t a → a < (table_of u).actions =
-          λ t a i. rw table_is at (action_there (run_in u M) h.steady w t a y.passed (rw i at e)) in
+          λ t a i. rw table_is at (action_there (run_in u M) h.steady w t a y.passed (e ∙ ap (λ (z : Reply). taken_turn z y.passed) i)) in
           rw table_is (done_read u y.reply y.passed (lent_turn u w M) r q there)
       go (Err y) e r q = absurd (refused_silent y (lent_turn u w M) r q)
 

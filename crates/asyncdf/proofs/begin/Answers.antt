@@ -1,6 +1,6 @@
 -- `asyncdf::begin` meets its contract: the blank record where a check applies, else that of the table as given where nothing is above the quota, and of the filled-out table where something is.
 use Rattle.std.specs.Prelude.{Err, Ok}
-use mathlib.Core.Path.{◌≡◌, sym, ap, subst, ◌∙◌}
+use mathlib.Core.Path.{◌≡◌, refl, sym, ap, subst, ◌∙◌}
 use Prim.Native.Nat.{ℕ, ◌≤◌}
 use mathlib.Core.List.{List}
 use mathlib.Core.Bool.{true}
@@ -13,15 +13,14 @@ use Rattle.table.specs.Format.{table_of}
 use Rattle.table.specs.declared.Refusal.{Refusal}
 use Rattle.order.specs.Firsts.{firsts}
 use Rattle.order.specs.Words.{filled}
-use Rattle.filling.specs.declared.Filling.{Filling}
 use Rattle.filling.specs.Filled.{filled_out}
 use Rattle.filling.specs.Filling.{filled_into}
 use Rattle.schedule.specs.Record.{blank}
 use Rattle.schedule.specs.Begin.{begin, start_run}
 use Rattle.schedule.specs.declared.Run.{Run}
 use Rattle.schedule.proofs.Runs.Values.{begin_values_lem}
-use Rattle.soundness.specs.Tested.{next_if, begin_found, begin_filling, begins, begun_into}
-use Rattle.soundness.proofs.Fillings.{sized, given_runs, size_is, front_is_lem, front_within}
+use Rattle.soundness.specs.Tested.{Filling, next_if, begin_found, begin_filling, begins, begun_into}
+use Rattle.soundness.proofs.Fillings.{answer_refused, answer_accepted, sized, given_runs, size_is, front_is_lem, front_within}
 use Rattle.asyncdf.proofs.Calls.{begun_answers}
 use Rattle.asyncdf.proofs.begin.Goals as goal
 
@@ -93,29 +92,29 @@ module _ (s : List ℕ) (p K : ℕ) (r : Filling) (e : r ≡ begin_filling s p K
         front_begun b g = begun b (g ∙ ap (λ (l : List ℕ). start_run l p K) front)
 
 pub returns-in-Err : goal.returns-in-Err
-returns-in-Err c = let a = c.args in let both = begun_answers (refused a.bytes.now a.p a.quota _ c.accept-filling.ensures.value _ _ c.in-Err.is c.blank.ensures) in record { value = both.0; answer_value = rw (← begin_values_lem) both.1 }
+returns-in-Err c = let a = c.args in let both = begun_answers (refused a.bytes.now a.p a.quota _ refl _ _ (answer_refused a.bytes.now a.p a.quota (sym c.in-Err.is ∙ c.accept-accepted.ensures.value)) c.blank.ensures) in record { value = both.0; answer_value = rw (← begin_values_lem) both.1 }
 
 pub start-requires : goal.start-requires
 start-requires c = let a = c.args in
-    record { bytes_len_bound = given_small a.bytes.now a.p a.quota _ c.accept-filling.ensures.value c.in_default.is c.if-k-eq0.true; next_value = given_next a.bytes.now a.p a.quota _ c.accept-filling.ensures.value c.in_default.is c.if-k-eq0.true _ c.accept-filling.ensures.next_after }
+    record { bytes_len_bound = given_small a.bytes.now a.p a.quota _ (answer_accepted a.bytes.now a.p a.quota (sym c.in-Ok.is ∙ c.accept-accepted.ensures.value)) refl c.if-k-eq0.true; next_value = given_next a.bytes.now a.p a.quota _ (answer_accepted a.bytes.now a.p a.quota (sym c.in-Ok.is ∙ c.accept-accepted.ensures.value)) refl c.if-k-eq0.true _ c.accept-accepted.ensures.next_after }
 
 pub returns-then-k-eq0 : goal.returns-then-k-eq0
-returns-then-k-eq0 c = let a = c.args in let both = begun_answers (given_begun a.bytes.now a.p a.quota _ c.accept-filling.ensures.value c.in_default.is c.if-k-eq0.true _ c.start.ensures) in record { value = both.0; answer_value = rw (← begin_values_lem) both.1 }
+returns-then-k-eq0 c = let a = c.args in let both = begun_answers (given_begun a.bytes.now a.p a.quota _ (answer_accepted a.bytes.now a.p a.quota (sym c.in-Ok.is ∙ c.accept-accepted.ensures.value)) refl c.if-k-eq0.true _ c.start.ensures) in record { value = both.0; answer_value = rw (← begin_values_lem) both.1 }
 
 pub slice_bounds-filled-end : goal.slice_bounds-filled-end
 slice_bounds-filled-end c =
     let a = c.args in
-    there a.bytes.now a.p a.quota _ c.accept-filling.ensures.value c.in_default.is c.if-k-eq0.false _ c.accept-filling.ensures.filled_after
+    there a.bytes.now a.p a.quota _ (answer_accepted a.bytes.now a.p a.quota (sym c.in-Ok.is ∙ c.accept-accepted.ensures.value)) refl c.if-k-eq0.false _ c.accept-accepted.ensures.filled_after
 
 pub slice_bounds-start-end : goal.slice_bounds-start-end
 slice_bounds-start-end c =
     let a = c.args in
-    sym (length-take-le _ _ (there a.bytes.now a.p a.quota _ c.accept-filling.ensures.value c.in_default.is c.if-k-eq0.false _ c.accept-filling.ensures.filled_after))
+    sym (length-take-le _ _ (there a.bytes.now a.p a.quota _ (answer_accepted a.bytes.now a.p a.quota (sym c.in-Ok.is ∙ c.accept-accepted.ensures.value)) refl c.if-k-eq0.false _ c.accept-accepted.ensures.filled_after))
 
 pub start-requires-2 : goal.start-requires-2
 start-requires-2 c = let a = c.args in
-    record { bytes_len_bound = front_small a.bytes.now a.p a.quota _ c.accept-filling.ensures.value c.in_default.is c.if-k-eq0.false _ c.accept-filling.ensures.filled_after; next_value = front_next a.bytes.now a.p a.quota _ c.accept-filling.ensures.value c.in_default.is c.if-k-eq0.false _ c.accept-filling.ensures.filled_after _ c.accept-filling.ensures.next_after }
+    record { bytes_len_bound = front_small a.bytes.now a.p a.quota _ (answer_accepted a.bytes.now a.p a.quota (sym c.in-Ok.is ∙ c.accept-accepted.ensures.value)) refl c.if-k-eq0.false _ c.accept-accepted.ensures.filled_after; next_value = front_next a.bytes.now a.p a.quota _ (answer_accepted a.bytes.now a.p a.quota (sym c.in-Ok.is ∙ c.accept-accepted.ensures.value)) refl c.if-k-eq0.false _ c.accept-accepted.ensures.filled_after _ c.accept-accepted.ensures.next_after }
 
 pub returns : goal.returns
 returns c = let a = c.args in
-    let both = begun_answers (front_begun a.bytes.now a.p a.quota _ c.accept-filling.ensures.value c.in_default.is c.if-k-eq0.false _ c.accept-filling.ensures.filled_after _ c.start-2.ensures) in record { value = both.0; answer_value = rw (← begin_values_lem) both.1 }
+    let both = begun_answers (front_begun a.bytes.now a.p a.quota _ (answer_accepted a.bytes.now a.p a.quota (sym c.in-Ok.is ∙ c.accept-accepted.ensures.value)) refl c.if-k-eq0.false _ c.accept-accepted.ensures.filled_after _ c.start-2.ensures) in record { value = both.0; answer_value = rw (← begin_values_lem) both.1 }

@@ -1,5 +1,5 @@
 -- `chart::wall_line` meets its contract, check by check; the line fills the buffer.
-use Rattle.std.specs.Prelude.{Result, ⊤}
+use Rattle.std.specs.Prelude.{Err, Result, ⊤}
 use Rattle.table.specs.declared.Refusal.{Refusal}
 use Prim.Native.Nat.{ℕ}
 use native.Mathlib.Omega.{arith}
@@ -25,11 +25,11 @@ passed : (c : In-Some) → unsound c.args.run ≡ false
 passed c = test_passes _ _ c.in-Some.ensures
 
 pub returns-in_default : goal.returns-in_default
-returns-in_default c = let a = c.args in let both = answers a.run a.out.now _ (charted_unsound a.run (test_fails a.run c.in_default.ensures)) refl in record { value = both.0; result_value = both.1.0; out_after = both.1.1 }
+returns-in_default c = let a = c.args in let both = answers a.run a.out.now _ (ap Err c.new.ensures ∙ charted_unsound a.run (test_fails a.run c.in_default.ensures)) refl in record { value = both.0; result_value = both.1.0; out_after = both.1.1 }
 
 pub returns-then-run-gt-MOST_TURNS : goal.returns-then-run-gt-MOST_TURNS
 returns-then-run-gt-MOST_TURNS c = let a = c.args in
-    let u = passed (goal.at.returns-then-run-gt-MOST_TURNS c).In-Some in let both = answers a.run a.out.now _ (charted_many a.run u (many a.run u c.if-run-gt-MOST_TURNS.true)) refl in record { value = both.0; result_value = both.1.0; out_after = both.1.1 }
+    let u = passed (goal.at.returns-then-run-gt-MOST_TURNS c).In-Some in let both = answers a.run a.out.now _ (ap Err c.new-then-run-gt-MOST_TURNS.ensures ∙ charted_many a.run u (many a.run u c.if-run-gt-MOST_TURNS.true)) refl in record { value = both.0; result_value = both.1.0; out_after = both.1.1 }
 
 pub returns : goal.returns
 returns c = let a = c.args in

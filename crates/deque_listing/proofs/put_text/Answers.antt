@@ -50,4 +50,4 @@ slice_bounds-order-end c = let sizes = right c.args.input.now (rw c.input_wrong.
 pub returns : goal.returns
 returns c =
     let a = c.args in
-    lists a.input.now (rw c.input_wrong.ensures at c.if-input_wrong.false) c.word-end.ensures.value c.byte-p.ensures c.quota_in-quota.ensures c.put_listing.ensures
+    lists a.input.now (rw c.input_wrong.ensures at c.if-input_wrong.false) c.word-end.ensures.value c.byte-p.ensures c.three_bytes-quota.ensures c.put_listing.ensures

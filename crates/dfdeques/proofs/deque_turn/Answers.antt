@@ -1,5 +1,5 @@
 -- `dfdeques::deque_turn` meets its contract: check 32, and then the turn in the blocks.
-use mathlib.Core.Path.{◌≡◌, sym, ◌∙◌}
+use mathlib.Core.Path.{◌≡◌, refl, sym, ◌∙◌}
 use mathlib.Core.Bool.{false}
 use native.Mathlib.Omega.{arith}
 use borrow.Author.Rules.{rules}
@@ -25,13 +25,13 @@ pub slice_bounds-table-end-2 : goal.slice_bounds-table-end-2
 slice_bounds-table-end-2 c =
     sym (length-take-le c.args.run.run.length c.args.run.run.table (deque_inside _ (passed (goal.at.slice_bounds-table-end-2 c).In-Some)))
 
-pub overflow_cast-spoken : goal.overflow_cast-spoken
-overflow_cast-spoken c = omega (arith, told_small _ _ _ _ c.deque_turn_in-spoken.ensures)
+pub overflow_cast-number : goal.overflow_cast-number
+overflow_cast-number c = omega (arith, told_small _ _ _ _ c.in-Err.ensures.turn_value)
 
-pub returns-then-spoken-ne0 : goal.returns-then-spoken-ne0
-returns-then-spoken-ne0 c = let both = (turned_answers (c.refused-then-spoken-ne0.ensures
-    ∙ deque_stopped _ (passed (goal.at.returns-then-spoken-ne0 c).In-Some) _ (λ h. deque_parents _ _ c.in-Some.ensures h) c.pack_deques.ensures _ _ c.deque_turn_in-spoken.ensures c.if-spoken-ne0.true)) in record { value = both.0; answer_value = rw (← deque_turn_values_lem) both.1 }
+pub returns-in-Err : goal.returns-in-Err
+returns-in-Err c = let both = (turned_answers (c.refused-in-Err.ensures
+    ∙ deque_stopped _ (passed (goal.at.returns-in-Err c).In-Some) _ (λ h. deque_parents _ _ c.in-Some.ensures h) c.pack_deques.ensures _ _ c.in-Err.ensures.turn_value (c.in-Err.ensures.nonzero _ refl))) in record { value = both.0; answer_value = rw (← deque_turn_values_lem) both.1 }
 
-pub returns : goal.returns
-returns c = let both = (turned_answers (deque_taken _ (passed (goal.at.returns c).In-Some) _ (λ h. deque_parents _ _ c.in-Some.ensures h) c.pack_deques.ensures _ _ c.deque_turn_in-spoken.ensures c.if-spoken-ne0.false
-    c.unpack_deques-after.ensures)) in record { value = both.0; answer_value = rw (← deque_turn_values_lem) both.1 }
+pub returns-in-Ok : goal.returns-in-Ok
+returns-in-Ok c = let both = (turned_answers (deque_taken _ (passed (goal.at.returns-in-Ok c).In-Some) _ (λ h. deque_parents _ _ c.in-Some.ensures h) c.pack_deques.ensures _ _ c.in-Ok.ensures.turn_value refl
+    c.unpack_deques.ensures)) in record { value = both.0; answer_value = rw (← deque_turn_values_lem) both.1 }

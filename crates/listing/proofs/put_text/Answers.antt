@@ -66,9 +66,9 @@ slice_bounds-order-end c = let sizes = right c.args.input.now (rw c.input_wrong.
 pub returns-then-chart : goal.returns-then-chart
 returns-then-chart c =
     let a = c.args in
-    charts a.chart a.input.now (rw c.input_wrong.ensures at c.if-input_wrong.false) c.word-end.ensures.value c.byte-p.ensures c.quota_in-quota.ensures c.if-chart.true c.put_chart.ensures
+    charts a.chart a.input.now (rw c.input_wrong.ensures at c.if-input_wrong.false) c.word-end.ensures.value c.byte-p.ensures c.three_bytes-quota.ensures c.if-chart.true c.put_chart.ensures
 
 pub returns : goal.returns
 returns c =
     let a = c.args in
-    lists a.chart a.input.now (rw c.input_wrong.ensures at c.if-input_wrong.false) c.word-end.ensures.value c.byte-p.ensures c.quota_in-quota.ensures c.if-chart.false c.put_listing.ensures
+    lists a.chart a.input.now (rw c.input_wrong.ensures at c.if-input_wrong.false) c.word-end.ensures.value c.byte-p.ensures c.three_bytes-quota.ensures c.if-chart.false c.put_listing.ensures

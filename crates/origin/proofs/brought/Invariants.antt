@@ -1,6 +1,6 @@
 -- `origin::brought` meets its contract. The invariant: both sums are those over the actions below a.
 use mathlib.Core.Path.{◌≡◌}
-use Prim.Native.Nat.{ℕ, ◌-◌, ◌*◌, ◌≤◌, ◌<◌}
+use Prim.Native.Nat.{ℕ, ◌*◌, ◌≤◌, ◌<◌}
 use mathlib.Core.List.{List}
 use Rattle.table.specs.Sum.{sum_to}
 use Rattle.table.specs.Format.{table_of}

@@ -10,8 +10,8 @@ told a b x r e f = omega (arith, e, f)
 pub brought-counted-requires : goal.brought-counted-requires
 brought-counted-requires c = record { n_value = c.requires.n_value; le_quota = c.requires.le_quota; k_bound = omega (arith, c.requires.a_bound) }
 
-pub less_pairs-requires : goal.less_pairs-requires
-less_pairs-requires c = record { x_bound = c.requires.a_bound; y_bound = c.brought-counted.ensures.read.small }
+pub overflow_mul-counted : goal.overflow_mul-counted
+overflow_mul-counted c = omega (arith, c.brought-counted.ensures.read.small)
 
 pub returns : goal.returns
-returns c = record { value = told _ _ _ _ c.brought-counted.ensures.read.value c.less_pairs.ensures.value; small = c.less_pairs.ensures.small }
+returns c = record { value = told _ _ _ _ c.brought-counted.ensures.read.value c.saturating_sub.ensures; small = omega (arith, c.saturating_sub.ensures, c.requires.a_bound) }

@@ -1,26 +1,20 @@
 -- `origin::names_thread` meets its contract.
 use mathlib.Core.Path.{◌≡◌}
-use Prim.Native.Nat.{ℕ}
-use mathlib.Core.Bool.{◌||◌}
-use native.Mathlib.Omega.{arith}
-use lib.Dec.{eqb}
-use borrow.Author.Tests.{eq-eqb, ne_eqb}
-use Rattle.table.specs.Format.{is, kind_of}
+use mathlib.Core.Bool.{true, ◌||◌}
+use mathlib.Core.Logic.{◌⊎◌, inl, inr}
+use Rattle.table.specs.Format.{is}
+use Rattle.table.specs.declared.kinds.Kind.{Kind}
 use Rattle.table.specs.declared.kinds.Kind.TheVariants.{Fork as fork, Join as join}
-use Rattle.table.proofs.Walks.{is_code}
+use Rattle.table.proofs.Tests.{other_is}
 use Rattle.origin.proofs.names_thread.Goals as goal
 
-module _ (k : ℕ) where
-  first : k ≡ 4 → eqb k 4 ≡ (is fork (kind_of k) || is join (kind_of k))
-  unfolding kind_of
-  first e = rw (is_code 4 k (omega arith), eq-eqb k 4 e)
+either : (k : Kind) → (k ≡ fork) ⊎ (k ≡ join) → true ≡ (is fork k || is join k)
+unfolding is
+either k (inl e) = rw e
+either k (inr e) = rw e
 
-  second : (k ≡ 4 → ⊥) → eqb k 5 ≡ (is fork (kind_of k) || is join (kind_of k))
-  unfolding kind_of
-  second h = rw (is_code 4 k (omega arith), is_code 5 k (omega arith), ne_eqb k 4 h)
+pub returns-in-Fork : goal.returns-in-Fork
+returns-in-Fork c = either _ c.in-Fork.is
 
-pub returns-then-code-eq-FORK : goal.returns-then-code-eq-FORK
-returns-then-code-eq-FORK c = first _ c.if-code-eq-FORK.true
-
-pub returns-else-code-eq-FORK : goal.returns-else-code-eq-FORK
-returns-else-code-eq-FORK c = second _ c.if-code-eq-FORK.false
+pub returns-in_default : goal.returns-in_default
+returns-in_default c = rw (other_is fork _ c.in_default.not-Fork, other_is join _ c.in_default.not-Join)

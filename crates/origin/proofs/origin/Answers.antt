@@ -75,7 +75,7 @@ returns-then-is_put_in c =
     let T = table_of s in
     let m = actions_read s c.actions-m.ensures in
     put_in_lem T _ _ (sym c.outside.ensures ∙ c.if-outside.false) _ m c.if-m-a.false _
-    (given_read T _ _ _ _ _ (threads_read s c.threads-n.ensures) m c.brought-all.ensures.threads_value c.less-given.ensures.value)
+    (given_read T _ _ _ _ _ (threads_read s c.threads-n.ensures) m c.brought-all.ensures.threads_value c.saturating_sub-given.ensures)
     (sym c.is_put_in.ensures ∙ c.if-is_put_in.true)
 
 pub kept-requires : goal.kept-requires
@@ -87,5 +87,5 @@ returns c =
     let T = table_of s in
     let m = actions_read s c.actions-m.ensures in
     stays T _ _ (sym c.outside.ensures ∙ c.if-outside.false) _ m c.if-m-a.false _
-    (given_read T _ _ _ _ _ (threads_read s c.threads-n.ensures) m c.brought-all.ensures.threads_value c.less-given.ensures.value)
+    (given_read T _ _ _ _ _ (threads_read s c.threads-n.ensures) m c.brought-all.ensures.threads_value c.saturating_sub-given.ensures)
     (sym c.is_put_in.ensures ∙ c.if-is_put_in.false) _ c.kept.ensures.value

@@ -1,6 +1,8 @@
 use mathlib.Core.Path.{◌≡◌, ◌∙◌}
 use Prim.Native.Nat.{◌+◌, ◌*◌, ◌-◌, ◌≤◌, max}
 use native.Mathlib.Omega.{arith}
+use borrow.Author.Rules.{rules}
+use lib.ListN.{get_or}
 use Rattle.pace.specs.Pace.{most_from}
 use Rattle.pace.proofs.Steps.{most_step, most_end}
 use Rattle.pace.proofs.most.Goals as goal
@@ -23,13 +25,11 @@ offset_bounds-pace-base c = omega arith
 pub bounds-pace-base : goal.bounds-pace-base
 bounds-pace-base c = omega arith
 
-pub larger-greatest-requires : goal.larger-greatest-requires
-larger-greatest-requires c = tt
-
 pub loop-x-preserved : goal.loop-x-preserved
 loop-x-preserved c =
     let d = c.args in
-    (omega arith, rw c.larger-greatest.ensures (most_step c.loop-x.x (omega arith) d.pace.now (16 * d.w) c.loop-x.greatest ∙ c.loop-x.invariant.1))
+    let e : c.max-greatest.result ≡ max c.loop-x.greatest (get_or d.pace.now (16 * d.w + c.loop-x.x) 0) = search rules in
+    (omega arith, rw e (most_step c.loop-x.x (omega arith) d.pace.now (16 * d.w) c.loop-x.greatest ∙ c.loop-x.invariant.1))
 
 pub returns : goal.returns
 returns c =

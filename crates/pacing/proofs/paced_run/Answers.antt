@@ -6,7 +6,7 @@ use borrow.Author.Rules.{rules}
 use lib.Seq.{length-take-le}
 use Rattle.schedule.specs.Turn.{unsound}
 use Rattle.soundness.proofs.Passed.{test_fails, test_passes, test_parents}
-use Rattle.asyncdf.proofs.Calls.{table_inside}
+use Rattle.asyncdf.proofs.Calls.{table_inside, report_is}
 use Rattle.wivakkol_pace.specs.PacedRuns.{paced_worker}
 use Rattle.pacing.proofs.PacedRefines.{run_unsound, run_taken, run_small, ran_as}
 use Rattle.pacing.proofs.paced_run.Goals.{In-Some}
@@ -28,10 +28,10 @@ pub slice_bounds-table-end-2 : goal.slice_bounds-table-end-2
 slice_bounds-table-end-2 c =
     sym (length-take-le c.args.run.length c.args.run.table (table_inside _ (passed (goal.at.slice_bounds-table-end-2 c).In-Some)))
 
-pub overflow_cast-stop : goal.overflow_cast-stop
-overflow_cast-stop c = omega (arith, run_small _ _ _ _ _ _ c.run_in-stop.ensures)
+pub report_of-report-requires : goal.report_of-report-requires
+report_of-report-requires c = run_small _ _ _ _ _ _ c.run_in-stop.ensures.run_value
 
 pub returns : goal.returns
 returns c =
-    ran_as c.report_of-report.ensures c.unpack-after.ensures
-    (run_taken _ (passed (goal.at.returns c).In-Some) _ (λ h. test_parents _ _ c.in-Some.ensures h) c.pack.ensures _ _ _ _ c.run_in-stop.ensures)
+    ran_as (c.report_of-report.ensures ∙ report_is _ _ c.run_in-stop.ensures.nonzero) c.unpack-after.ensures
+    (run_taken _ (passed (goal.at.returns c).In-Some) _ (λ h. test_parents _ _ c.in-Some.ensures h) c.pack.ensures _ _ _ _ c.run_in-stop.ensures.run_value)

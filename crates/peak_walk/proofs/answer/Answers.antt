@@ -18,7 +18,7 @@ returns-in_err-check_in c =
     e ∙ (ap Err q ∙ refused _ _ _ (sym c.check_in.ensures.value ∙ c.in_err-check_in.was))
 
 pub returns-then-load-gt16 : goal.returns-then-load-gt16
-returns-then-load-gt16 c = too_high _ _ _ (silent (goal.at.returns-then-load-gt16 c).In_ok-check_in) c.if-load-gt16.true
+returns-then-load-gt16 c = ap Err c.new.ensures ∙ too_high _ _ _ (silent (goal.at.returns-then-load-gt16 c).In_ok-check_in) c.if-load-gt16.true
 
 pub peak_of-requires : goal.peak_of-requires
 peak_of-requires c = let a = accepted _ _ (silent (goal.at.peak_of-requires c).In_ok-check_in) c.threads-n.ensures.value in record { accepted = (a, c.if-load-gt16.false); right = right_start _ _ a _ }

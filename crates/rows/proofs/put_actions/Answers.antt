@@ -21,7 +21,7 @@ pub loop-i-preserved : goal.loop-i-preserved
 loop-i-preserved c =
     let d = c.args in
     again d.out.now d.at d.actions.now 0 d.count (moved_by d.o) c.loop-i.out c.loop-i.at c.loop-i.i c.loop-i.invariant c.loop-i-test.true
-    c.action_in-action.result.code c.action_in-action.result.argument c.moved-x.result (c.action_in-action.ensures.code_value ∙ ap (code_at d.actions.now) (zero_plus c.loop-i.i)) (c.action_in-action.ensures.read.value ∙ ap (argument_at d.actions.now) (zero_plus c.loop-i.i)) c.moved-x.ensures _ _
+    c.action_in-action.result.code c.action_in-action.result.argument c.moved-x.result (c.action_in-action.ensures.code_value ∙ ap (code_at d.actions.now) (zero_plus c.loop-i.i)) (c.action_in-action.ensures.read.value ∙ ap (argument_at d.actions.now) (zero_plus c.loop-i.i)) (rw c.kind.ensures at c.moved-x.ensures) _ _
     (omega arith) c.put_action-at.ensures
 
 pub shape_of-out : goal.shape_of-out

@@ -10,5 +10,5 @@ pub record Inv (out₀ : List ℕ) (at₀ : ℕ) (s order names out : List ℕ) 
   pub within : i ≤ length order
   pub left : Rest out₀ at₀ (ordered_rows s (named_by names) order) out at (ordered_rows s (named_by names) (drop i order))
 
-abbrev pub invariant-loop-i : goal.invariant-loop-i
-invariant-loop-i l = Inv l.initial.out l.initial.at l.table l.order l.names l.out l.at l.i
+abbrev pub invariant-loop-t : goal.invariant-loop-t
+invariant-loop-t l = Inv l.initial.out l.initial.at l.table l.order l.names l.out l.at l.t-index

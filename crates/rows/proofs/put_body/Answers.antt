@@ -15,7 +15,7 @@ pub loop-i-preserved : goal.loop-i-preserved
 loop-i-preserved c =
     let d = c.args in
     again d.out.now d.at d.actions.now d.first d.count (named_by d.names.now) c.loop-i.out c.loop-i.at c.loop-i.i c.loop-i.invariant c.loop-i-test.true
-    c.action_in-action.result.code c.action_in-action.result.argument c.named-x.result c.action_in-action.ensures.code_value c.action_in-action.ensures.read.value c.named-x.ensures _ _
+    c.action_in-action.result.code c.action_in-action.result.argument c.named-x.result c.action_in-action.ensures.code_value c.action_in-action.ensures.read.value (rw c.kind.ensures at c.named-x.ensures) _ _
     (omega arith) c.put_action-at.ensures
 
 pub shape_of-out : goal.shape_of-out

@@ -37,26 +37,26 @@ module _ (out₀ : List ℕ) (at₀ : ℕ) (s order out : List ℕ) (at before i
       let q : drop i order ≡ [] = ap (λ (j : ℕ). drop j order) z ∙ drop-length order in
       rw q at v.left.same
 
-pub loop-i-init : goal.loop-i-init
-loop-i-init c =
+pub loop-t-init : goal.loop-t-init
+loop-t-init c =
     let d = c.args in
     start d.out.now d.at d.table.now d.order.now
 
 pub overflow_add-before : goal.overflow_add-before
 overflow_add-before c =
-    omega (arith, c.count-size.ensures.small, c.loop-i.invariant.small)
+    omega (arith, c.count-size.ensures.small, c.loop-t.invariant.small)
 
-pub loop-i-preserved : goal.loop-i-preserved
-loop-i-preserved c =
+pub loop-t-preserved : goal.loop-t-preserved
+loop-t-preserved c =
     let d = c.args in
-    again d.out.now d.at d.table.now d.order.now c.loop-i.out c.loop-i.at c.loop-i.before c.loop-i.i c.loop-i.invariant c.loop-i-test.true
+    again d.out.now d.at d.table.now d.order.now c.loop-t.out c.loop-t.at c.loop-t.before c.loop-t.t-index c.loop-t.invariant c.loop-t-test.true
     c.wide.result c.count-size.result c.wide.ensures.value c.count-size.ensures.value _ _
     (omega arith) c.put_pair-at.ensures
 
 pub shape_of-out : goal.shape_of-out
-shape_of-out c = omega (arith, c.loop-i.invariant.left.long)
+shape_of-out c = omega (arith, c.loop-t.invariant.left.long)
 
 pub returns : goal.returns
 returns c =
     let d = c.args in
-    ends d.out.now d.at d.table.now d.order.now c.loop-i.out c.loop-i.at c.loop-i.before c.loop-i.i c.loop-i.invariant c.loop-i-test.false
+    ends d.out.now d.at d.table.now d.order.now c.loop-t.out c.loop-t.at c.loop-t.before c.loop-t.t-index c.loop-t.invariant c.loop-t-test.false

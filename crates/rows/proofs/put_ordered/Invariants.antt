@@ -11,5 +11,5 @@ pub record Inv (out₀ : List ℕ) (at₀ : ℕ) (s order out : List ℕ) (at be
   pub small : before < 65536
   pub left : Rest out₀ at₀ (ordered_entries s 0 order) out at (ordered_entries s before (drop i order))
 
-abbrev pub invariant-loop-i : goal.invariant-loop-i
-invariant-loop-i l = Inv l.initial.out l.initial.at l.table l.order l.out l.at l.before l.i
+abbrev pub invariant-loop-t : goal.invariant-loop-t
+invariant-loop-t l = Inv l.initial.out l.initial.at l.table l.order l.out l.at l.before l.t-index

@@ -1,5 +1,5 @@
 -- `wivakkol_deque_turn::wivakkol_deque_turn_on` meets its contract: what the turn says is put into the row.
-use mathlib.Core.Path.{◌≡◌, ap, ◌∙◌}
+use mathlib.Core.Path.{◌≡◌, refl, ap, ◌∙◌}
 use Prim.Native.Nat.{ℕ}
 use mathlib.Core.List.{List}
 use borrow.Author.Rules.{rules}
@@ -19,10 +19,12 @@ module _ (s : List ℕ) (w c : ℕ) (M : Memory) {y : Told} (e : y ≡ deque_tur
   unfolding lent_deque_turn
   tells {row} d r = ap (λ (x : List ℕ). answer 0 x y.memory) r ∙ rw (← e, d)
 
-pub returns-then-told-ne0 : goal.returns-then-told-ne0
-returns-then-told-ne0 c =
-    refuses c.args.table.now c.args.w c.args.c (memory_of c.args.bytes.now c.args.words.now c.args.numbers.now c.args.sums.now) c.deque_turn_in-told.ensures c.if-told-ne0.true
+pub returns-in-Ok : goal.returns-in-Ok
+returns-in-Ok c =
+    let a = c.args in
+    tells a.table.now a.w a.c (memory_of a.bytes.now a.words.now a.numbers.now a.sums.now) c.in-Ok.ensures.turn_value refl c.put_reply.ensures
 
-pub returns : goal.returns
-returns c =
-    tells c.args.table.now c.args.w c.args.c (memory_of c.args.bytes.now c.args.words.now c.args.numbers.now c.args.sums.now) c.deque_turn_in-told.ensures c.if-told-ne0.false c.put_reply.ensures
+pub returns-in-Err : goal.returns-in-Err
+returns-in-Err c =
+    let a = c.args in
+    refuses a.table.now a.w a.c (memory_of a.bytes.now a.words.now a.numbers.now a.sums.now) c.in-Err.ensures.turn_value (c.in-Err.ensures.nonzero _ refl)

@@ -6,4 +6,4 @@ use Rattle.wivakkol_deques.proofs.wivakkol_deque_list_on.Goals as goal
 
 pub returns : goal.returns
 unfolding lent_deque_list
-returns c = stopped_answers c.deque_list_in-stop.ensures c.put_run.ensures.value c.put_run.ensures.row_after
+returns c = stopped_answers _ _ c.deque_list_in-stop.ensures.run_value c.deque_list_in-stop.ensures.nonzero c.put_run.ensures.value c.put_run.ensures.row_after

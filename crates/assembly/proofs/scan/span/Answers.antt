@@ -33,20 +33,13 @@ module _ (p : ℕ → Bool) (s : List ℕ) (i : ℕ) (v : Inv p s i) where
 pub loop-i-init : goal.loop-i-init
 loop-i-init c = record { within = omega arith; rest = omega arith }
 
-pub bounds-s-i : goal.bounds-s-i
-bounds-s-i c = omega arith
-
-pub overflow_add-i : goal.overflow_add-i
-overflow_add-i c = omega arith
-
-pub loop-i-smaller : goal.loop-i-smaller
-loop-i-smaller c = omega arith
-
 pub loop-i-preserved : goal.loop-i-preserved
-loop-i-preserved c = again _ _ _ c.loop-i.invariant c.loop-i-test.true (sym c.in_class.ensures ∙ c.if-in_class.true)
+loop-i-preserved c = again _ _ _ c.loop-i.invariant c.loop-i-test.true (sym c.in_class.ensures ∙ c.if-not-in_class.false)
 
-pub returns-else-in_class : goal.returns-else-in_class
-returns-else-in_class c = stops _ _ _ c.loop-i.invariant c.loop-i-test.true (sym c.in_class.ensures ∙ c.if-in_class.false)
+pub returns-then-not-in_class : goal.returns-then-not-in_class
+returns-then-not-in_class c = stops _ _ _ c.loop-i.invariant c.loop-i-test.true (sym c.in_class.ensures ∙ c.if-not-in_class.true)
 
 pub returns : goal.returns
-returns c = ends _ _ _ c.loop-i.invariant c.loop-i-test.false
+returns c =
+    let e : length c.args.s.now ≡ c.loop-i.i = omega (arith, c.loop-i.invariant.within, c.loop-i-test.false) in
+    rw e (ends _ _ _ c.loop-i.invariant c.loop-i-test.false)

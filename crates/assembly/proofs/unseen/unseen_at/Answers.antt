@@ -19,4 +19,4 @@ line_is s line k at r e a d =
     rw (n, q) (ap first_line x)
 
 pub returns : goal.returns
-returns c = c.unseen_in.ensures ∙ ap unseen_in (line_is _ _ _ _ _ c.lines_before.ensures c.after_lines-at.ensures c.span.ensures)
+returns c = c.unseen_in.ensures ∙ ap unseen_in (line_is _ _ _ _ _ (omega (arith, c.saturating_sub.ensures)) c.after_lines-at.ensures c.span.ensures)

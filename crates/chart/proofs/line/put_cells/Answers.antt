@@ -38,18 +38,12 @@ module _ {p : ℕ} {workers : List Worker} {out₀ : List ℕ} {at₀ : ℕ} {ou
 pub loop-w-init : goal.loop-w-init
 loop-w-init c = record { within = omega arith; long = refl; rest = refl }
 
-pub offset_bounds-workers-w : goal.offset_bounds-workers-w
-offset_bounds-workers-w c = omega arith
-
-pub bounds-workers-w : goal.bounds-workers-w
-bounds-workers-w c = omega arith
-
 pub loop-w-preserved : goal.loop-w-preserved
 loop-w-preserved c =
-    again (search rules) c.loop-w.invariant c.loop-w-test.true (omega arith) c.put_cell-at.ensures
+    again (search rules) c.loop-w.invariant (omega arith) (omega arith) c.put_cell-at.ensures
 
 pub shape_of-out : goal.shape_of-out
 shape_of-out c = omega arith
 
 pub returns : goal.returns
-returns c = all (search rules) c.loop-w.invariant c.loop-w-test.false
+returns c = all (search rules) c.loop-w.invariant (omega arith)

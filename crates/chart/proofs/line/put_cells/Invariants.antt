@@ -19,4 +19,4 @@ pub record Inv (p : ℕ) (workers : List Worker) (out₀ : List ℕ) (at₀ : �
   pub rest : put_all (buffer_at out at) (cells_after p workers w) ≡ put_all (buffer_at out₀ at₀) (cells_texts (cells_from p 0 workers))
 
 abbrev pub invariant-loop-w : goal.invariant-loop-w
-invariant-loop-w l = Inv l.p l.workers l.initial.out l.initial.at l.out l.at l.w
+invariant-loop-w l = Inv l.p l.worker-items l.initial.out l.initial.at l.out l.at l.w

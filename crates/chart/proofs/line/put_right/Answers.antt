@@ -41,7 +41,7 @@ fits : (c : After-put_number-k) → c.put_number-k.result ≤ length c.put_numbe
 fits c = within c.args.n _ _ (bounded c) c.put_number-k.ensures
 
 pub slice_bounds-put_word-end : goal.slice_bounds-put_word-end
-slice_bounds-put_word-end c = sym (length-take-le c.room-pad.result (replicate 14 32) (omega (arith, c.room-pad.ensures, c.requires)))
+slice_bounds-put_word-end c = sym (length-take-le c.saturating_sub-pad.result (replicate 14 32) (omega (arith, c.saturating_sub-pad.ensures, c.requires)))
 
 pub slice_bounds-digits-end : goal.slice_bounds-digits-end
 slice_bounds-digits-end c = fits (goal.at.slice_bounds-digits-end c).After-put_number-k
@@ -52,4 +52,4 @@ slice_bounds-put_word-end-2 c =
 
 pub returns : goal.returns
 returns c =
-    aligned c.args.n _ _ (bounded (goal.at.returns c).After-put_number-k) c.put_number-k.ensures c.args.out.now c.args.at c.args.width c.room-pad.result c.requires c.room-pad.ensures c.put_word-at.ensures c.put_word.ensures
+    aligned c.args.n _ _ (bounded (goal.at.returns c).After-put_number-k) c.put_number-k.ensures c.args.out.now c.args.at c.args.width c.saturating_sub-pad.result c.requires c.saturating_sub-pad.ensures c.put_word-at.ensures c.put_word.ensures

@@ -1,4 +1,4 @@
-use mathlib.Core.Path.{◌≡◌, sym, ap, ◌∙◌}
+use mathlib.Core.Path.{◌≡◌, refl, sym, ap, ◌∙◌}
 use Prim.Native.Nat.{ℕ, ◌+◌, ◌-◌, ◌*◌, ◌/◌}
 use native.Mathlib.Omega.{arith}
 use borrow.Author.Rules.{rules}
@@ -32,22 +32,19 @@ overflow_cast-w c = omega (arith, c.type_inv.order (2 * c.loop-i.i))
 pub overflow_cast-c : goal.overflow_cast-c
 overflow_cast-c c = omega (arith, c.type_inv.order (2 * c.loop-i.i + 1))
 
-pub overflow_cast-spoken : goal.overflow_cast-spoken
-overflow_cast-spoken c = omega (arith, told_small _ _ _ _ c.deque_turn_in-spoken.ensures)
+pub overflow_cast-number : goal.overflow_cast-number
+overflow_cast-number c = omega (arith, told_small _ _ _ _ c.in-Err.ensures.turn_value)
 
-pub shape_of-out-then-spoken-ne0 : goal.shape_of-out-then-spoken-ne0
-shape_of-out-then-spoken-ne0 c = omega (arith, c.loop-i.invariant.listed.long)
+pub shape_of-out-in-Err : goal.shape_of-out-in-Err
+shape_of-out-in-Err c = omega (arith, c.loop-i.invariant.listed.long)
 
-pub returns-then-spoken-ne0 : goal.returns-then-spoken-ne0
-returns-then-spoken-ne0 c =
-    stopped c.loop-i.invariant c.loop-i-test.true (λ x. c.if-status_at-eq-ENDED.false (c.status_at.ensures ∙ x)) c.deque_turn_in-spoken.ensures c.if-spoken-ne0.true c.put_refused.ensures
-
-pub loop-i-smaller : goal.loop-i-smaller
-loop-i-smaller c = omega (arith, c.loop-i-test.true)
+pub returns-in-Err : goal.returns-in-Err
+returns-in-Err c =
+    stopped c.loop-i.invariant c.loop-i-test.true (λ x. c.if-status_at-eq-ENDED.false (c.status_at.ensures ∙ x)) c.in-Err.ensures.turn_value (c.in-Err.ensures.nonzero _ refl) c.put_refused.ensures
 
 pub loop-i-preserved : goal.loop-i-preserved
 loop-i-preserved c =
-    goes_on c.loop-i.invariant c.loop-i-test.true (λ x. c.if-status_at-eq-ENDED.false (c.status_at.ensures ∙ x)) c.deque_turn_in-spoken.ensures c.if-spoken-ne0.false (omega (arith, c.out-in-loop-i-1.given))
+    goes_on c.loop-i.invariant c.loop-i-test.true (λ x. c.if-status_at-eq-ENDED.false (c.status_at.ensures ∙ x)) c.in-Ok.ensures.turn_value refl (omega (arith, c.out-in-loop-i-1.given))
     c.put_step-at.ensures
 
 pub shape_of-out : goal.shape_of-out

@@ -30,4 +30,4 @@ returns-then-input-lt3 c =
     record { value = rw c.new.ensures both.0; out_after = both.1 }
 
 pub returns : goal.returns
-returns c = let both = long c.args.input.now c.args.out.now _ _ _ c.if-input-lt3.false c.quota_in.ensures c.fill_whole.ensures.value c.fill_whole.ensures.out_after in record { value = both.0; out_after = both.1 }
+returns c = let both = long c.args.input.now c.args.out.now _ _ _ c.if-input-lt3.false c.three_bytes.ensures c.fill_whole.ensures.value c.fill_whole.ensures.out_after in record { value = both.0; out_after = both.1 }

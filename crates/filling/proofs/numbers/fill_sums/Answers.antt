@@ -44,9 +44,6 @@ module _ (s : List ℕ) (n K : ℕ) (sums : List ℕ) (t : ℕ) (i : Inv s n K s
 pub loop-t-init : goal.loop-t-init
 loop-t-init c = start c.args.table.now _ _ c.args.sums.now c.requires.ready c.requires.sums_len
 
-pub overflow_sub-t : goal.overflow_sub-t
-overflow_sub-t c = omega arith
-
 pub thread_sum-requires : goal.thread_sum-requires
 thread_sum-requires c = let i = c.loop-t.invariant in record { ready = i.ready; t_lt_n = omega (arith, i.within, c.loop-t-test.true); sums = above _ _ _ _ _ i c.loop-t-test.true }
 
@@ -55,9 +52,6 @@ offset_bounds-sums-t c = omega (arith, c.loop-t.invariant)
 
 pub bounds-sums-t : goal.bounds-sums-t
 bounds-sums-t c = omega (arith, c.loop-t.invariant, c.loop-t-test.true)
-
-pub loop-t-smaller : goal.loop-t-smaller
-loop-t-smaller c = omega (arith, c.loop-t-test.true)
 
 pub loop-t-preserved : goal.loop-t-preserved
 loop-t-preserved c = again _ _ _ _ _ c.loop-t.invariant c.loop-t-test.true _ c.thread_sum.ensures

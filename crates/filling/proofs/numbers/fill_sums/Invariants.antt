@@ -14,6 +14,3 @@ pub record Inv (s : List ℕ) (n K : ℕ) (sums : List ℕ) (t : ℕ) : Type 0 w
 
 abbrev pub invariant-loop-t : goal.invariant-loop-t
 invariant-loop-t l = Inv l.table l.n l.quota l.sums l.t
-
-abbrev pub decreases-loop-t : goal.decreases-loop-t
-decreases-loop-t l = l.t

@@ -5,8 +5,11 @@ use native.Mathlib.Omega.{arith}
 use Rattle.table.specs.Format.{table_of}
 use Rattle.table.specs.Checks.{owner}
 use Rattle.filling.specs.Code.Steps.{Ready, At, Sums, Starts}
-use Rattle.filling.proofs.Reading.{code_read, end_code, not_end}
+use Rattle.filling.proofs.Reading.{kind_read}
 use Rattle.filling.proofs.Numbering.{sums_from, root_between, at_next, at_last, at_thread, l}
+use mathlib.Core.Path.{sym, ◌∙◌}
+use Rattle.table.specs.declared.kinds.Kind.TheVariants.{End as end}
+use Rattle.table.proofs.Tests.{other_is}
 use Rattle.table.proofs.Bodies.{owner_below_lem}
 use Rattle.filling.proofs.numbers.place_after.Goals as goal
 
@@ -28,20 +31,20 @@ pub overflow_add-result : goal.overflow_add-result
 overflow_add-result c =
     omega (arith, (low c.args.table.now _ _ _ _ _ c.args.sums.now c.args.starts.now (c.requires.ready, (c.requires.a_bound, (c.requires.at, (c.requires.sums, c.requires.starts))))).0, c.step.ensures.small)
 
-pub returns-then-code-ne-END : goal.returns-then-code-ne-END
-returns-then-code-ne-END c =
-    λ j. at_next c.args.table.now _ _ c.requires.ready _ _ _ c.requires.a_bound c.requires.at _ (rw (code_read c.args.table.now c.requires.ready.threads _ c.code.ensures) at (not_end c.if-code-ne-END.true)) c.step.ensures.value
+pub returns-in_default : goal.returns-in_default
+returns-in_default c =
+    λ j. at_next c.args.table.now _ _ c.requires.ready _ _ _ c.requires.a_bound c.requires.at _ (other_is end _ (λ e. c.in_default.not-End ((kind_read c.args.table.now c.requires.ready.threads _ c.kind.ensures) ∙ e))) c.step.ensures.value
 
 pub overflow_add-t : goal.overflow_add-t
 overflow_add-t c =
     omega (arith, (low c.args.table.now _ _ _ _ _ c.args.sums.now c.args.starts.now (c.requires.ready, (c.requires.a_bound, (c.requires.at, (c.requires.sums, c.requires.starts))))).1)
 
-pub returns-then-t-n : goal.returns-then-t-n
-returns-then-t-n c =
+pub returns-else-n-t : goal.returns-else-n-t
+returns-else-n-t c =
     λ j. at_thread c.args.table.now _ _ c.requires.ready _ _ _ c.requires.a_bound c.requires.at c.args.starts.now c.requires.starts
-    (rw (code_read c.args.table.now c.requires.ready.threads _ c.code.ensures) at (end_code c.if-code-ne-END.false)) c.if-t-n.true
+    (sym (kind_read c.args.table.now c.requires.ready.threads _ c.kind.ensures) ∙ c.in-End.is) c.if-n-t.false
 
-pub returns : goal.returns
-returns c =
+pub returns-then-n-t : goal.returns-then-n-t
+returns-then-n-t c =
     λ j. absurd (at_last c.args.table.now _ _ c.requires.ready _ _ _ c.requires.a_bound c.requires.at
-    (rw (code_read c.args.table.now c.requires.ready.threads _ c.code.ensures) at (end_code c.if-code-ne-END.false)) c.if-t-n.false j)
+    (sym (kind_read c.args.table.now c.requires.ready.threads _ c.kind.ensures) ∙ c.in-End.is) c.if-n-t.true j)

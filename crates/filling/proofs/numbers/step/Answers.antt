@@ -7,21 +7,23 @@ use lib.ListN.{get_or}
 use lib.Dec.{ltb}
 use Rattle.table.specs.Sum.{pick, Read}
 use Rattle.table.specs.Format.{Table, table_of, kind}
+use Rattle.table.proofs.Tests.{other_is}
+use Rattle.table.specs.declared.kinds.Kind.{Kind}
 use Rattle.table.specs.declared.kinds.Kind.TheVariants.{Fork as fork}
 use Rattle.table.specs.Checks.{owner, alloc_of}
 use Rattle.filling.specs.Filled.{big, dummies, new_threads}
 use Rattle.filling.specs.Code.Steps.{Ready, new_of, root_step, Sums}
-use Rattle.filling.proofs.Reading.{code_read, argument_read, fork_code, not_fork}
+use Rattle.filling.proofs.Reading.{kind_read, argument_read}
 use Rattle.filling.proofs.Numbering.{step_fork, step_plain, child_in, new_small, new_few}
 use Rattle.filling.proofs.numbers.step.Goals as goal
 
-module _ (s : List ℕ) (n K a : ℕ) (sums : List ℕ) (p : Ready s n K × ((a < (table_of s).actions) × Sums (table_of s) K sums (owner (table_of s) a + 1))) (k : ℕ) (e : k ≡ (table_of s).code a) where
+module _ (s : List ℕ) (n K a : ℕ) (sums : List ℕ) (p : Ready s n K × ((a < (table_of s).actions) × Sums (table_of s) K sums (owner (table_of s) a + 1))) (k : Kind) (e : k ≡ kind (table_of s) a) where
   abbrev T : Table
   T = table_of s
 
-  module _ (x : ℕ) (q : k ≡ 4) (d : x ≡ T.argument a) where
+  module _ (x : ℕ) (q : k ≡ fork) (d : x ≡ T.argument a) where
     forks : kind T a ≡ fork
-    forks = rw e at (fork_code q)
+    forks = sym e ∙ q
 
     child : x < 1024
     child = omega (arith, (child_in s n K p.0 a p.1.0 forks).2)
@@ -32,20 +34,20 @@ module _ (s : List ℕ) (n K a : ℕ) (sums : List ℕ) (p : Ready s n K × ((a 
         let z : get_or sums x 0 ≡ new_of T K (T.argument a) = rw d (p.1.1.right (T.argument a) (omega arith) below) in
         record { value = z ∙ sym (step_fork s n K p.0 a p.1.0 forks); small = omega (arith, z, new_small s n K p.0 (T.argument a) below) }
 
-  at_plain : (k ≡ 4 → ⊥) → (x y : ℕ) → x ≡ alloc_of T a → y ≡ pick (ltb K x) (2 * ((x + K - 1) / K) - 1) 0 → Read (root_step T K a) 16777216 y
+  at_plain : (k ≡ fork → ⊥) → (x y : ℕ) → x ≡ alloc_of T a → y ≡ pick (ltb K x) (2 * ((x + K - 1) / K) - 1) 0 → Read (root_step T K a) 16777216 y
   unfolding new_threads big dummies
   at_plain q x y d f =
       let z : y ≡ new_threads T K a = rw d at f in
-      record { value = z ∙ sym (step_plain s n K p.0 a p.1.0 (rw e at (not_fork q))); small = omega (arith, z, new_few s n K p.0 a p.1.0) }
+      record { value = z ∙ sym (step_plain s n K p.0 a p.1.0 (other_is fork _ (λ d. q (e ∙ d)))); small = omega (arith, z, new_few s n K p.0 a p.1.0) }
 
 pub bounds-sums-argument : goal.bounds-sums-argument
 bounds-sums-argument c =
-    child c.args.table.now _ _ _ c.args.sums.now (c.requires.ready, (c.requires.a_bound, c.requires.sums)) _ (code_read c.args.table.now c.requires.ready.threads _ c.code.ensures) _ c.if-code-eq-FORK.true (argument_read c.args.table.now c.requires.ready.threads _ c.argument.ensures).value
+    child c.args.table.now _ _ _ c.args.sums.now (c.requires.ready, (c.requires.a_bound, c.requires.sums)) _ (kind_read c.args.table.now c.requires.ready.threads _ c.kind.ensures) _ c.in-Fork.is (argument_read c.args.table.now c.requires.ready.threads _ c.argument.ensures).value
 
-pub returns-then-code-eq-FORK : goal.returns-then-code-eq-FORK
-returns-then-code-eq-FORK c =
-    at_fork c.args.table.now _ _ _ c.args.sums.now (c.requires.ready, (c.requires.a_bound, c.requires.sums)) _ (code_read c.args.table.now c.requires.ready.threads _ c.code.ensures) _ c.if-code-eq-FORK.true (argument_read c.args.table.now c.requires.ready.threads _ c.argument.ensures).value
+pub returns-in-Fork : goal.returns-in-Fork
+returns-in-Fork c =
+    at_fork c.args.table.now _ _ _ c.args.sums.now (c.requires.ready, (c.requires.a_bound, c.requires.sums)) _ (kind_read c.args.table.now c.requires.ready.threads _ c.kind.ensures) _ c.in-Fork.is (argument_read c.args.table.now c.requires.ready.threads _ c.argument.ensures).value
 
-pub returns : goal.returns
-returns c =
-    at_plain c.args.table.now _ _ _ c.args.sums.now (c.requires.ready, (c.requires.a_bound, c.requires.sums)) _ (code_read c.args.table.now c.requires.ready.threads _ c.code.ensures) c.if-code-eq-FORK.false _ _ c.amount.ensures.value c.new_threads.ensures.value
+pub returns-in_default : goal.returns-in_default
+returns-in_default c =
+    at_plain c.args.table.now _ _ _ c.args.sums.now (c.requires.ready, (c.requires.a_bound, c.requires.sums)) _ (kind_read c.args.table.now c.requires.ready.threads _ c.kind.ensures) c.in_default.not-Fork _ _ c.amount.ensures.value c.new_threads.ensures.value

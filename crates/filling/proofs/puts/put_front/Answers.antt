@@ -2,6 +2,7 @@
 use mathlib.Core.Path.{◌≡◌, ap, ◌∙◌}
 use Prim.Native.Nat.{ℕ, ◌≤◌, ◌<◌}
 use mathlib.Core.List.{List}
+use Rattle.table.specs.Format.{code_of}
 use Rattle.text.specs.Text.{Buffer, buffer_at, placed, placed_next}
 use Rattle.text.specs.Puts.{put_all}
 use Rattle.rows.specs.Rows.{cut_action}
@@ -20,4 +21,5 @@ pub returns-then-x-quota : goal.returns-then-x-quota
 returns-then-x-quota c = none _ _ _ _ c.if-x-quota.true
 
 pub returns : goal.returns
-returns c = two _ _ _ c.args.out.now _ _ _ _ _ c.if-x-quota.false c.put_action-after.ensures c.put_action.ensures
+unfolding code_of
+returns c = two _ _ _ c.args.out.now _ _ _ _ _ c.if-x-quota.false c.put_kind-after.ensures c.put_kind.ensures

@@ -2,6 +2,7 @@
 use mathlib.Core.Path.{◌≡◌, refl, ap, ◌∙◌}
 use Prim.Native.Nat.{ℕ, ◌+◌, ◌*◌, ◌/◌, ◌≤◌, ◌<◌}
 use mathlib.Core.List.{List}
+use Rattle.table.specs.Format.{code_of}
 use Rattle.text.specs.Text.{Buffer, buffer_at, placed, placed_next}
 use Rattle.text.specs.Puts.{put_all}
 use Rattle.rows.specs.Rows.{cut_action}
@@ -26,8 +27,10 @@ more c d h p o o1 o2 o3 o4 q at r1 r2 r3 r4 j e1 e2 e3 e4 e5 =
     (e3 ∙ ap (λ (b : Buffer). placed_next b (cut_action 5 y)) (e2 ∙ ap (λ (b : Buffer). placed_next b (cut_action 4 y)) e1))))
 
 pub returns-then-d-le1 : goal.returns-then-d-le1
-returns-then-d-le1 c = one _ _ c.if-d-le1.true c.args.out.now _ _ _ _ _ c.put_action-after.ensures c.put_action.ensures
+unfolding code_of
+returns-then-d-le1 c = one _ _ c.if-d-le1.true c.args.out.now _ _ _ _ _ c.put_kind-after.ensures c.put_kind.ensures
 
 pub returns : goal.returns
+unfolding code_of
 returns c =
-    more c.args.c c.args.d c.if-d-le1.false c.requires c.args.out.now _ _ _ _ _ _ _ _ _ _ _ c.put_action-at.ensures c.put_action-at-2.ensures c.put_action-at-3.ensures c.put_action-at-4.ensures c.put_action-2.ensures
+    more c.args.c c.args.d c.if-d-le1.false c.requires c.args.out.now _ _ _ _ _ _ _ _ _ _ _ c.put_kind-at.ensures c.put_kind-at-2.ensures c.put_kind-at-3.ensures c.put_kind-at-4.ensures c.put_kind-2.ensures

@@ -11,6 +11,7 @@ use Rattle.inputs.specs.Front.{Order, onward_order, added, order_from, max_order
 use Rattle.inputs.specs.Code.Steps.{Ordering}
 use Rattle.inputs.specs.declared.Wanted.{Wanted}
 use Rattle.inputs.proofs.order.order_line.Invariants.{Inv}
+use Rattle.std.proofs.lemmas.Result.{err_from_is_err_and}
 use Rattle.inputs.proofs.order.order_line.Goals as goal
 
 -- the word from a to b of the part from a place on
@@ -85,11 +86,13 @@ slice_bounds-add_worker-start c = omega (arith, c.first_word-word.ensures.order,
 pub slice_bounds-add_worker-end : goal.slice_bounds-add_worker-end
 slice_bounds-add_worker-end c = omega (arith, c.first_word-word.ensures.within)
 
-pub add_worker-ordered-requires : goal.add_worker-ordered-requires
-add_worker-ordered-requires c = c.loop-at.invariant.room
+pub add_worker-requires : goal.add_worker-requires
+add_worker-requires c = c.loop-at.invariant.room
 
-pub returns-in-Err : goal.returns-in-Err
-returns-in-Err c = broken_off _ _ _ _ _ _ c.loop-at.invariant _ _ c.first_word-word.ensures c.if-start-end.false _ c.add_worker-ordered.ensures c.in-Err.is
+pub returns-in_err-n : goal.returns-in_err-n
+returns-in_err-n c =
+    let q = err_from_is_err_and c.from_residual.result c.from_residual.ensures.1 in
+    rw (q.1, q.2) (broken_off _ _ _ _ _ _ c.loop-at.invariant _ _ c.first_word-word.ensures c.if-start-end.false _ c.add_worker.ensures c.in_err-n.was)
 
 pub overflow_add-at : goal.overflow_add-at
 overflow_add-at c = omega (arith, word_within _ _ _ _ _ _ c.loop-at.invariant _ _ c.first_word-word.ensures)
@@ -98,7 +101,7 @@ pub loop-at-smaller : goal.loop-at-smaller
 loop-at-smaller c = omega (arith, some _ _ _ _ _ _ c.loop-at.invariant _ _ c.first_word-word.ensures c.if-start-end.false, word_within _ _ _ _ _ _ c.loop-at.invariant _ _ c.first_word-word.ensures)
 
 pub loop-at-preserved : goal.loop-at-preserved
-loop-at-preserved c = again _ _ _ _ _ _ c.loop-at.invariant _ _ c.first_word-word.ensures c.if-start-end.false _ c.add_worker-ordered.ensures c.in-Ok.is (omega (arith, c.loop-at.invariant.room.full))
+loop-at-preserved c = again _ _ _ _ _ _ c.loop-at.invariant _ _ c.first_word-word.ensures c.if-start-end.false _ c.add_worker.ensures c.in_ok-n.was (omega (arith, c.loop-at.invariant.room.full))
 
 pub returns : goal.returns
 returns c = past _ _ _ _ _ _ c.loop-at.invariant c.loop-at-test.false

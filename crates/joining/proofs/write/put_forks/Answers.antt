@@ -1,5 +1,6 @@
 use Prim.Native.Nat.{◌+◌, ◌≤◌}
 use native.Mathlib.Omega.{arith}
+use Rattle.table.specs.Format.{code_of}
 use Rattle.joining.specs.Answers.{parts_of}
 use Rattle.joining.specs.Code.Rows.{starts_over, fork_rows, threads_over}
 use Rattle.joining.proofs.Splits.{parts_length}
@@ -30,10 +31,11 @@ pub overflow_add-root : goal.overflow_add-root
 overflow_add-root c = omega (arith, within (goal.at.overflow_add-root c).After-threads-root)
 
 pub loop-i-preserved : goal.loop-i-preserved
+unfolding code_of
 loop-i-preserved c =
     let d = c.args in
     again over_forks c.loop-i.invariant (omega (arith, c.loop-i-test.true, parts_length d.lengths.now d.tables.now)) _ c.part_at.ensures c.threads-root.result c.threads-root.ensures.value _ _
-    (omega arith) c.put_action-at.ensures
+    (omega arith) (rw c.code.ensures at c.put_action-at.ensures)
 
 pub shape_of-out : goal.shape_of-out
 shape_of-out c = omega (arith, c.loop-i.invariant.left.long)

@@ -4,6 +4,7 @@ use Prim.Native.Nat.{ℕ, suc, ◌+◌, ◌*◌}
 use mathlib.Core.List.{List, [], ◌∷◌, ◌++◌, append_assoc, foldl-append}
 use native.Mathlib.Omega.{arith}
 use lib.ListN.{length}
+use Rattle.table.specs.Format.{code_of}
 use Rattle.text.specs.Text.{Buffer, buffer_at, placed, placed_next}
 use Rattle.text.specs.Puts.{put_all}
 use Rattle.rows.specs.Rows.{cut_pair, cut_action}
@@ -44,7 +45,8 @@ joined_put ps n m q k e f g l out o₁ o₂ o₃ o₄ o₅ o₆ o₇ k₁ k₂ k
     (p₃ ∙ ap (λ (j : ℕ). put_all (buffer_at o₂ k₂) (entries_over j ps)) (sym g)) p₄ p₅ p₆ p₇)
 
 pub returns : goal.returns
+unfolding code_of
 returns c =
     let d = c.args in
     joined_put (parts_of d.lengths.now d.tables.now) d.n d.m (2 * length d.lengths.now + 1) (length d.lengths.now) c.requires.1 c.requires.2 (omega arith) (sym (parts_length d.lengths.now d.tables.now))
-    d.out.now _ _ _ _ _ _ _ _ _ _ _ _ _ _ c.put_pair-at.ensures c.put_pair-at-2.ensures c.put_part_entries-at.ensures c.put_forks-at.ensures c.put_joins-at.ensures c.put_action-at.ensures c.put_part_actions.ensures
+    d.out.now _ _ _ _ _ _ _ _ _ _ _ _ _ _ c.put_pair-at.ensures c.put_pair-at-2.ensures c.put_part_entries-at.ensures c.put_forks-at.ensures c.put_joins-at.ensures (rw c.code.ensures at c.put_action-at.ensures) c.put_part_actions.ensures

@@ -4,7 +4,7 @@ use mathlib.Core.List.{List, [], ◌∷◌, ◌++◌}
 use native.Mathlib.Omega.{arith}
 use lib.ListN.{length, get_or, take}
 use lib.Seq.{take-suc, take-length}
-use Rattle.table.specs.Format.{threads_of}
+use Rattle.table.specs.Format.{code_of, threads_of}
 use Rattle.text.specs.Text.{buffer_at, placed}
 use Rattle.text.specs.Puts.{put_all}
 use Rattle.rows.specs.Rows.{cut_action}
@@ -79,10 +79,11 @@ pub loop-i-smaller : goal.loop-i-smaller
 loop-i-smaller c = omega (arith, c.loop-i-test.true)
 
 pub loop-i-preserved : goal.loop-i-preserved
+unfolding code_of
 loop-i-preserved c =
     let d = c.args in
     again d.out.now d.at (parts_of d.lengths.now d.tables.now) _ _ _ _ c.loop-i.invariant (c.loop-i.i - 1) (omega (arith, c.loop-i-test.true)) _ c.part_at.ensures c.threads-root.result c.threads-root.ensures.value _ _
-    (omega arith) c.put_action-at.ensures
+    (omega arith) (rw c.code.ensures at c.put_action-at.ensures)
 
 pub shape_of-out : goal.shape_of-out
 shape_of-out c = omega (arith, c.loop-i.invariant.left.long)

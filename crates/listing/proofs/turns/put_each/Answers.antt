@@ -169,71 +169,59 @@ module _ {chart : Bool} {s : List ℕ} {p : ℕ} {order out₀ : List ℕ} {at�
               let (b, d) = says_end (table_of s) g e in
               ended next_listed (root_over there (told_ends.ends a b d rooted)) n
 
-pub loop-i-init : goal.loop-i-init
-loop-i-init c =
+pub loop-w-init : goal.loop-w-init
+loop-w-init c =
     record { within = omega arith; long = refl; tells = record { drawn = c.requires; listed = start _ _ _ _ _ } }
 
-pub bounds-order-i : goal.bounds-order-i
-bounds-order-i c = omega arith
+pub overflow_cast-number : goal.overflow_cast-number
+overflow_cast-number c = omega (arith, told_small _ _ _ c.in-Err.ensures.sums_after)
 
-pub overflow_cast-w : goal.overflow_cast-w
-overflow_cast-w c = omega (arith, c.type_inv.order c.loop-i.i)
+pub shape_of-out-in-Err : goal.shape_of-out-in-Err
+shape_of-out-in-Err c = omega arith
 
-pub overflow_cast-spoken : goal.overflow_cast-spoken
-overflow_cast-spoken c = omega (arith, told_small _ _ _ c.turn_in-spoken.ensures.sums_after)
-
-pub shape_of-out-then-spoken-ne0 : goal.shape_of-out-then-spoken-ne0
-shape_of-out-then-spoken-ne0 c = omega arith
-
-pub returns-then-spoken-ne0 : goal.returns-then-spoken-ne0
-returns-then-spoken-ne0 c =
-    stopped c.loop-i.invariant.tells c.loop-i-test.true c.turn_in-spoken.ensures.sums_after c.if-spoken-ne0.true c.put_refused.ensures
+pub returns-in-Err : goal.returns-in-Err
+returns-in-Err c =
+    stopped c.loop-w.invariant.tells c.loop-w-test.true c.in-Err.ensures.sums_after (c.in-Err.ensures.nonzero _ refl) c.put_refused.ensures
 
 pub shape_of-out-then-too_many : goal.shape_of-out-then-too_many
 shape_of-out-then-too_many c = omega arith
 
 pub returns-then-too_many : goal.returns-then-too_many
 returns-then-too_many c =
-    no_line c.loop-i.invariant.tells c.loop-i-test.true c.turn_in-spoken.ensures.sums_after c.if-spoken-ne0.false (asked c.args.chart c.total_at.result c.too_many.ensures c.total_at.ensures c.if-too_many.true)
+    no_line c.loop-w.invariant.tells c.loop-w-test.true c.in-Ok.ensures.sums_after refl (asked c.args.chart c.total_at.result c.too_many.ensures c.total_at.ensures c.if-too_many.true)
     c.put_refused-then-too_many.ensures
 
-pub loop-i-smaller-in_default : goal.loop-i-smaller-in_default
-loop-i-smaller-in_default c = omega (arith, c.loop-i-test.true)
-
-pub loop-i-preserved-in_default : goal.loop-i-preserved-in_default
-loop-i-preserved-in_default c =
-    let v = c.loop-i.invariant in
+pub loop-w-preserved-in_default : goal.loop-w-preserved-in_default
+loop-w-preserved-in_default c =
+    let v = c.loop-w.invariant in
     record {
-      within = omega (arith, c.loop-i-test.true);
+      within = omega (arith, c.loop-w-test.true);
       long = omega (arith, c.out-in_default-1.given, v.long);
       tells =
-          undone v.tells c.loop-i-test.true c.turn_in-spoken.ensures.sums_after c.if-spoken-ne0.false (asked c.args.chart c.total_at.result c.too_many.ensures c.total_at.ensures c.if-too_many.false) (omega (arith, c.out-in_default-1.given))
+          undone v.tells c.loop-w-test.true c.in-Ok.ensures.sums_after refl (asked c.args.chart c.total_at.result c.too_many.ensures c.total_at.ensures c.if-too_many.false) (omega (arith, c.out-in_default-1.given))
           c.put_after-at.ensures c.in_default.not-Done;
     }
 
 pub shape_of-out-then-ends_root : goal.shape_of-out-then-ends_root
 shape_of-out-then-ends_root c =
-    omega (arith, c.out-in-loop-i-1.given, c.loop-i.invariant.long)
+    omega (arith, c.out-in-loop-w-1.given, c.loop-w.invariant.long)
 
 pub returns-then-ends_root : goal.returns-then-ends_root
 returns-then-ends_root c =
     let g = c.in-Done.is in
-    finished c.loop-i.invariant.tells c.loop-i-test.true c.turn_in-spoken.ensures.sums_after c.if-spoken-ne0.false (asked c.args.chart c.total_at.result c.too_many.ensures c.total_at.ensures c.if-too_many.false) (omega (arith, c.out-in-loop-i-1.given))
-    (done_line c.loop-i.invariant.tells c.loop-i-test.true c.turn_in-spoken.ensures.sums_after c.if-spoken-ne0.false g c.put_done-at.ensures) g (sym c.ends_root.ensures ∙ c.if-ends_root.true) c.put_end.ensures
+    finished c.loop-w.invariant.tells c.loop-w-test.true c.in-Ok.ensures.sums_after refl (asked c.args.chart c.total_at.result c.too_many.ensures c.total_at.ensures c.if-too_many.false) (omega (arith, c.out-in-loop-w-1.given))
+    (done_line c.loop-w.invariant.tells c.loop-w-test.true c.in-Ok.ensures.sums_after refl g c.put_done-at.ensures) g (sym c.ends_root.ensures ∙ c.if-ends_root.true) c.put_end.ensures
 
-pub loop-i-smaller : goal.loop-i-smaller
-loop-i-smaller c = omega (arith, c.loop-i-test.true)
-
-pub loop-i-preserved : goal.loop-i-preserved
-loop-i-preserved c =
-    let v = c.loop-i.invariant in
+pub loop-w-preserved : goal.loop-w-preserved
+loop-w-preserved c =
+    let v = c.loop-w.invariant in
     let g = c.in-Done.is in
     record {
-      within = omega (arith, c.loop-i-test.true);
-      long = omega (arith, c.out-in-loop-i-1.given, v.long);
+      within = omega (arith, c.loop-w-test.true);
+      long = omega (arith, c.out-in-loop-w-1.given, v.long);
       tells =
-          goes_on v.tells c.loop-i-test.true c.turn_in-spoken.ensures.sums_after c.if-spoken-ne0.false (asked c.args.chart c.total_at.result c.too_many.ensures c.total_at.ensures c.if-too_many.false) (omega (arith, c.out-in-loop-i-1.given))
-          (done_line v.tells c.loop-i-test.true c.turn_in-spoken.ensures.sums_after c.if-spoken-ne0.false g c.put_done-at.ensures) g (sym c.ends_root.ensures ∙ c.if-ends_root.false);
+          goes_on v.tells c.loop-w-test.true c.in-Ok.ensures.sums_after refl (asked c.args.chart c.total_at.result c.too_many.ensures c.total_at.ensures c.if-too_many.false) (omega (arith, c.out-in-loop-w-1.given))
+          (done_line v.tells c.loop-w-test.true c.in-Ok.ensures.sums_after refl g c.put_done-at.ensures) g (sym c.ends_root.ensures ∙ c.if-ends_root.false);
     }
 
 pub shape_of-out : goal.shape_of-out
@@ -241,4 +229,4 @@ shape_of-out c = omega arith
 
 pub returns : goal.returns
 returns c =
-    spent c.loop-i.invariant.tells c.loop-i-test.false c.put_end-2.ensures
+    spent c.loop-w.invariant.tells c.loop-w-test.false c.put_end-2.ensures

@@ -46,9 +46,6 @@ pub record Inv (chart : Bool) (s : List ℕ) (p : ℕ) (order out₀ : List ℕ)
   pub long : length out ≡ length out₀
   pub tells : Tells chart s p order out₀ at₀ M₀ M out at i
 
-abbrev pub invariant-loop-i : goal.invariant-loop-i
-invariant-loop-i l =
-    Inv l.chart l.table l.p l.order l.initial.out l.initial.at (memory_of l.initial.bytes l.initial.words l.initial.numbers l.initial.sums) (memory_of l.bytes l.words l.numbers l.sums) l.out l.at l.i
-
-abbrev pub decreases-loop-i : goal.decreases-loop-i
-decreases-loop-i l = length l.order - l.i
+abbrev pub invariant-loop-w : goal.invariant-loop-w
+invariant-loop-w l =
+    Inv l.chart l.table l.p l.order l.initial.out l.initial.at (memory_of l.initial.bytes l.initial.words l.initial.numbers l.initial.sums) (memory_of l.bytes l.words l.numbers l.sums) l.out l.at l.w-index

@@ -6,4 +6,4 @@ use Rattle.wivakkol.proofs.runs.wivakkol_rounds_on.Goals as goal
 
 pub returns : goal.returns
 unfolding lent_rounds
-returns c = stopped_answers c.rounds_in-stop.ensures c.put_run.ensures.value c.put_run.ensures.row_after
+returns c = stopped_answers _ _ c.rounds_in-stop.ensures.run_value c.rounds_in-stop.ensures.nonzero c.put_run.ensures.value c.put_run.ensures.row_after
