@@ -1,22 +1,19 @@
 // Reads a table on standard input and writes its canonical form. Where it is refused, nothing is written but a line on standard error that says why.
 #![tactic(auto)]
 
+use canonical::form;
 use std::io;
-use std::io::Write;
-use streams::{large_buffer, read_full};
+use streams::{large_buffer, write_answer_or_line};
+use text::table_line;
 
 fn main(rt: HostRuntime) -> io::Result<()> {
     // More than the longest table: what lies beyond is refused for its length all the same.
-    let mut buffer = large_buffer();
-    let n = read_full(&mut rt.stdin(), &mut buffer)?;
-    let mut bytes = [0u8; 36868];
-    let answer = canonical::form(&buffer[..n], &mut bytes);
-    match answer {
-        Ok(k) => { rt.stdout().write_all(&bytes[..k]) }
-        Err(r) => {
-            let mut line = [0u8; 80];
-            let k = text::table_line(Err(r), &mut line);
-            rt.stderr().write_all(&line[..k])
-        }
-    }
+    write_answer_or_line(
+        &mut rt.stdin(),
+        &mut large_buffer(),
+        form,
+        &mut rt.stdout(),
+        |_, refusal, line| table_line(Err(refusal), line),
+        &mut rt.stderr(),
+    )
 }

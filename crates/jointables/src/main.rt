@@ -2,9 +2,9 @@
 // standard error that says why.
 #![tactic(auto)]
 
+use joining::{join_given, join_line, joined_size};
 use std::io;
-use std::io::Write;
-use streams::read_full;
+use streams::write_answer_or_line;
 
 // A byte more than sixteen of the longest tables with their lengths and the count, so that a longer input is refused.
 fn input_buffer() -> [u8; 589954] {
@@ -12,13 +12,12 @@ fn input_buffer() -> [u8; 589954] {
 }
 
 fn main(rt: HostRuntime) -> io::Result<()> {
-    let mut input = input_buffer();
-    let n = read_full(&mut rt.stdin(), &mut input)?;
-    let mut bytes = [0u8; 36868];
-    let answer = joining::join_given(&input[..n], &mut bytes);
-    let k = joining::joined_size(answer);
-    rt.stdout().write_all(&bytes[..k])?;
-    let mut line = [0u8; 80];
-    let k = joining::join_line(answer, &mut line);
-    rt.stderr().write_all(&line[..k])
+    write_answer_or_line(
+        &mut rt.stdin(),
+        &mut input_buffer(),
+        |input, table| join_given(input, table).map(|facts| joined_size(Ok(facts))),
+        &mut rt.stdout(),
+        |_, error, line| join_line(Err(error), line),
+        &mut rt.stderr(),
+    )
 }

@@ -3,14 +3,15 @@
 #![tactic(auto)]
 
 use std::io;
-use std::io::Write;
-use streams::{large_buffer, read_full};
+use streams::{large_buffer, write_answer};
+use useful_limit::limit_line;
 
 fn main(rt: HostRuntime) -> io::Result<()> {
     // More than the longest input: what lies beyond is refused for its length all the same.
-    let mut buffer = large_buffer();
-    let n = read_full(&mut rt.stdin(), &mut buffer)?;
-    let mut line = [0u8; 160];
-    let k = useful_limit::limit_line(&buffer[..n], &mut line);
-    rt.stdout().write_all(&line[..k])
+    write_answer(
+        &mut rt.stdin(),
+        &mut large_buffer(),
+        limit_line,
+        &mut rt.stdout(),
+    )
 }

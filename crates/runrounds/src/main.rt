@@ -1,15 +1,16 @@
 // Reads p, K, a limit of turns and a table on standard input, runs it in rounds, and prints one line.
 #![tactic(auto)]
 
+use listing::rounds_line;
 use std::io;
-use std::io::Write;
-use streams::{large_buffer, read_full};
+use streams::{large_buffer, write_answer};
 
 fn main(rt: HostRuntime) -> io::Result<()> {
     // More than the longest table: what lies beyond is refused for its length all the same.
-    let mut buffer = large_buffer();
-    let n = read_full(&mut rt.stdin(), &mut buffer)?;
-    let mut line = [0u8; 96];
-    let k = listing::rounds_line(&buffer[..n], &mut line);
-    rt.stdout().write_all(&line[..k])
+    write_answer(
+        &mut rt.stdin(),
+        &mut large_buffer(),
+        rounds_line,
+        &mut rt.stdout(),
+    )
 }

@@ -1,15 +1,17 @@
 // Reads a table on standard input and prints one line: its facts, or the check that refuses it.
 #![tactic(auto)]
 
+use facts::load;
 use std::io;
-use std::io::Write;
-use streams::{large_buffer, read_full};
+use streams::{large_buffer, write_answer};
+use text::facts_line;
 
 fn main(rt: HostRuntime) -> io::Result<()> {
     // More than the longest table: what lies beyond is refused for its length all the same.
-    let mut buffer = large_buffer();
-    let n = read_full(&mut rt.stdin(), &mut buffer)?;
-    let mut line = [0u8; 80];
-    let k = text::facts_line(facts::load(&buffer[..n]), &mut line);
-    rt.stdout().write_all(&line[..k])
+    write_answer(
+        &mut rt.stdin(),
+        &mut large_buffer(),
+        |table, line| facts_line(load(table), line),
+        &mut rt.stdout(),
+    )
 }

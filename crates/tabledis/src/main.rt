@@ -1,22 +1,19 @@
 // Reads a table on standard input and writes its text. Where it is refused, nothing is written but a line on standard error that says why.
 #![tactic(auto)]
 
+use assembly::disassemble;
 use std::io;
-use std::io::Write;
-use streams::{large_buffer, read_full};
+use streams::{large_buffer, write_answer_or_line};
+use text::table_line;
 
 fn main(rt: HostRuntime) -> io::Result<()> {
     // More than the longest table: what lies beyond is refused for its length all the same.
-    let mut buffer = large_buffer();
-    let n = read_full(&mut rt.stdin(), &mut buffer)?;
-    let mut listing = [0u8; 266240];
-    let answer = assembly::disassemble(&buffer[..n], &mut listing);
-    match answer {
-        Ok(k) => { rt.stdout().write_all(&listing[..k]) }
-        Err(r) => {
-            let mut line = [0u8; 80];
-            let k = text::table_line(Err(r), &mut line);
-            rt.stderr().write_all(&line[..k])
-        }
-    }
+    write_answer_or_line(
+        &mut rt.stdin(),
+        &mut large_buffer(),
+        disassemble,
+        &mut rt.stdout(),
+        |_, refusal, line| table_line(Err(refusal), line),
+        &mut rt.stderr(),
+    )
 }

@@ -1,15 +1,16 @@
 // Reads p, K, an order of workers and a table on standard input, and prints the wall chart of the run.
 #![tactic(auto)]
 
+use listing::wall_chart;
 use std::io;
-use std::io::Write;
-use streams::{large_buffer, read_full};
+use streams::{large_buffer, write_answer};
 
 fn main(rt: HostRuntime) -> io::Result<()> {
     // More than the longest order and table: what lies beyond is refused for its length all the same.
-    let mut buffer = large_buffer();
-    let n = read_full(&mut rt.stdin(), &mut buffer)?;
-    let mut text = [0u8; 348330];
-    let k = listing::wall_chart(&buffer[..n], &mut text);
-    rt.stdout().write_all(&text[..k])
+    write_answer(
+        &mut rt.stdin(),
+        &mut large_buffer(),
+        wall_chart,
+        &mut rt.stdout(),
+    )
 }
