@@ -2,7 +2,7 @@
 use Rattle.std.specs.Prelude.{Err, Ok, Result}
 use Rattle.schedule.specs.Turn.{taken_turn}
 use mathlib.Core.Path.{◌≡◌, refl, sym, ap, ◌∙◌}
-use Prim.Native.Nat.{ℕ, ◌-◌, ◌^◌, ◌≤◌, ◌<◌}
+use Prim.Native.Nat.{ℕ, ◌-◌, ◌^◌, ◌%◌, ◌≤◌, ◌<◌}
 use native.Mathlib.Omega.{arith}
 use native.Mathlib.Decide.{ℕ_discrete}
 use mathlib.Core.List.{List, [], ◌∷◌}
@@ -179,9 +179,9 @@ module _ (run : Run) (e : unsound run ≡ false) (parents : List ℕ) (right : S
 
 -- ---- an answer put together
 
-pub report_is : (f : Result Bool ℕ) (turns : ℕ) → ((n : ℕ) → f ≡ Err n → n ≡ 0 → ⊥) → report_at f turns ≡ report_of (number_in f) (finished_in f) turns
-report_is (Ok over) turns z = refl
-report_is (Err n) turns z = rw (ne_eqb n 0 (z n refl))
+pub report_is : (f : Result Bool ℕ) (turns : ℕ) → ((n : ℕ) → f ≡ Err n → n ≡ 0 → ⊥) → number_in f < 256 → report_at f turns ≡ report_of (number_in f) (finished_in f) turns
+report_is (Ok over) turns z h = refl
+report_is (Err n) turns z h = let m : n % 256 ≡ n = omega arith in rw (ne_eqb n 0 (z n refl), m)
 
 pub ran_as : {x x' : Report} {r r' : Run} {y : Ran} → x ≡ x' → r ≡ r' → ran x' r' ≡ y → ran x r ≡ y
 ran_as e f g = (λ i. ran (e i) (f i)) ∙ g

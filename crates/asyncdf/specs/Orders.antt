@@ -1,5 +1,5 @@
 -- A run over a list of workers or in rounds: by value, and in the blocks; and its report.
-use Rattle.std.specs.Prelude.{ℕ, List, Bool, Err, Ok, Result}
+use Rattle.std.specs.Prelude.{ℕ, ◌%◌, List, Bool, Err, Ok, Result}
 use Rattle.table.specs.Sum.{pick}
 use Rattle.table.specs.Pass.{refusal}
 use Rattle.schedule.specs.declared.Run.{Run}
@@ -23,4 +23,4 @@ stop_as s (Rounds limit) M = rounds_run_in s limit M
 -- whether it stopped at the root's end, or the number of a refusal; and the turns that it took
 abbrev pub report_at : Result Bool ℕ → ℕ → Report
 report_at (Ok over) turns = pick over (Finished turns) (Spent turns)
-report_at (Err n) turns = Refused turns (refusal n 0)
+report_at (Err n) turns = Refused turns (refusal (n % 256) 0)

@@ -2,7 +2,7 @@
 // pack the record into the blocks of crates/run_memory, take their turns there, and read it back.
 #![tactic(auto)]
 
-ghost use Rattle.std.specs.Prelude.{◌≡◌, ◌<◌, ℕ, Err};
+ghost use Rattle.std.specs.Prelude.{◌≡◌, ℕ, Err};
 ghost use Rattle.std.specs.Int.Count.{ones};
 ghost use Rattle.table.specs.Pass.{refusal};
 ghost use Rattle.schedule.specs.declared.Report.TheVariants.{Refused as Stopped};
@@ -128,14 +128,13 @@ fn unsound(run: Run) -> Ran
 
 // The report of a run that stopped: whether at the root's end, or a refusal's number; and the turns that it took.
 pub fn report_of(finished: Result<bool, u32>, turns: u64) -> Report
-    requires { number_in finished < 256 }
     ensures { result ≡ report_at finished turns }
 {
     match finished {
         Ok(true) => Report::Finished(turns),
         Ok(false) => Report::Spent(turns),
         Err(number) => {
-            let number = number as u8;
+            let number = (number % 256) as u8;
             Report::Refused(turns, Refusal { number, place: 0 })
         }
     }

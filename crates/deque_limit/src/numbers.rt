@@ -6,9 +6,9 @@ ghost use Rattle.deque_limit.specs.ChoiceLimit.{near_limit, bounds_of};
 ghost use Rattle.deque_limit.specs.Asked.{Asked, Small};
 
 use crate::Bounds;
+use peak_walk::peak_in;
 use quota::allocs::least_quota;
 use table::Facts;
-use useful_limit::peak_at;
 
 // S1 + K · (N − 1).
 fn ruled(serial: u64, quota: u32, nested: u16) -> u64
@@ -31,7 +31,7 @@ fn near_at(
     requires { Accepted table.now facts × (1 ≤ quota) × (quota ≤ 16777215) }
     ensures { result ≡ near_limit (table_of table.now) quota }
 {
-    let peak = peak_at(table, 1, false, rises, falls, peaks, rows);
+    let peak = peak_in(table, 1, false, rises, falls, peaks, rows).unwrap_or(0);
     if (quota as usize) < least_quota(table) {
         return peak;
     }
@@ -55,6 +55,6 @@ pub(crate) fn numbers(
     if c == 1 {
         return Bounds { memory: near, near };
     }
-    let memory = peak_at(table, c as u8, false, rises, falls, peaks, rows);
+    let memory = peak_in(table, c as u8, false, rises, falls, peaks, rows).unwrap_or(0);
     Bounds { memory, near }
 }

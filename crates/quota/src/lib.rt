@@ -73,12 +73,11 @@ fn quota_for(table: &[u8], facts: Facts, p: u8, b: u32, memory: u64) -> Result<u
     Ok(most)
 }
 
-// What each unit of quota adds to the bound. With b below 2^16, p at most 16 and D at most 8,192 it is below 2^33, and times any K below 2^57; here no product with K is made.
+// What each unit of quota adds to the bound, of any numbers of these widths: below 2^56. With b below 2^16, p at most 16 and D at most 8,192 it is below 2^33, and times any K below 2^57.
 pub fn cost(p: u8, b: u32, depth: u16) -> u64
-    requires { Ready p b depth }
     ensures { result ≡ b * (p - 1) * (depth - 1) }
 {
-    (b as u64) * ((p - 1) as u64) * ((depth - 1) as u64)
+    b as u64 * p.saturating_sub(1) as u64 * depth.saturating_sub(1) as u64
 }
 
 // How many units of a cost an amount pays for, up to the largest quota of all.

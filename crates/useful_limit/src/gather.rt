@@ -2,9 +2,7 @@
 ghost use Rattle.std.specs.Prelude.{◌≡◌, ◌≤◌};
 ghost use Rattle.table.specs.Format.{table_of};
 ghost use Rattle.table.specs.Rules.{Rules};
-ghost use Rattle.peaks.specs.Peak.{peak_on};
 ghost use Rattle.peaks.specs.Rests.{resting_peak, parallel_peak};
-ghost use Rattle.peak_walk.specs.Peaked.{standing};
 ghost use Rattle.quota.specs.Code.Steps.{Accepted, Ready};
 ghost use Rattle.useful_limit.specs.Code.Parts.{Sums, parts_of};
 
@@ -14,22 +12,6 @@ use peak_walk::{parallel_in, peak_in};
 use quota::allocs::least_quota;
 use quota::cost;
 use table::Facts;
-
-// The root's peak at a load, over all places or over resting places alone.
-pub fn peak_at(
-    table: &[u8],
-    load: u8,
-    resting: bool,
-    rises: &mut [u64; 1024],
-    falls: &mut [u64; 1024],
-    peaks: &mut [u64; 17408],
-    rows: &mut [u64; 17408],
-) -> u64
-    requires { Rules table.now × (load ≤ 16) }
-    ensures { result ≡ peak_on (table_of table.now) (standing (table_of table.now) resting) 0 load }
-{
-    peak_in(table, load, resting, rises, falls, peaks, rows).unwrap_or(0)
-}
 
 // Over resting places, with what p threads may have drawn since theirs.
 fn resting_peak(
@@ -43,7 +25,7 @@ fn resting_peak(
     requires { Rules table.now × (1 ≤ p) × (p ≤ 16) }
     ensures { result ≡ resting_peak (table_of table.now) p }
 {
-    let peak = peak_at(table, p - 1, true, rises, falls, peaks, rows);
+    let peak = peak_in(table, p - 1, true, rises, falls, peaks, rows).unwrap_or(0);
     peak + (p as u64) * rise(table)
 }
 
@@ -71,7 +53,7 @@ pub(crate) fn parts(
     ensures value { result ≡ parts_of (table_of table.now) p b quota }
     ensures sums { Sums result }
 {
-    let peak = peak_at(table, p - 1, false, rises, falls, peaks, rows);
+    let peak = peak_in(table, p - 1, false, rises, falls, peaks, rows).unwrap_or(0);
     let resting = resting_peak(table, p, rises, falls, peaks, rows);
     let cost = cost(p, b, facts.depth);
     let stretch = stretch(table, quota);

@@ -16,7 +16,6 @@ ghost use Rattle.useful_limit.specs.Code.Parts.{own_answer};
 
 use fit::fit;
 use gather::parts;
-pub use gather::peak_at;
 use limit::limit_answer;
 pub use limit::wide_fault;
 use line::{answer_line, answer_to, limit_to, limits_line};

@@ -26,9 +26,6 @@ pub slice_bounds-table-end-2 : goal.slice_bounds-table-end-2
 slice_bounds-table-end-2 c =
     sym (length-take-le c.args.run.run.length c.args.run.run.table (deque_inside _ (passed (goal.at.slice_bounds-table-end-2 c).In-Some)))
 
-pub report_of-report-requires : goal.report_of-report-requires
-report_of-report-requires c = pairs_small _ _ _ c.deque_list_in-stop.ensures.run_value
-
 pub returns : goal.returns
-returns c = let both = (ran_answers (ran_as (c.report_of-report.ensures ∙ report_is _ _ c.deque_list_in-stop.ensures.nonzero) c.unpack_deques-after.ensures
+returns c = let both = (ran_answers (ran_as (c.report_of-report.ensures ∙ report_is _ _ c.deque_list_in-stop.ensures.nonzero (pairs_small _ _ _ c.deque_list_in-stop.ensures.run_value)) c.unpack_deques-after.ensures
     (pairs_taken_lem _ (passed (goal.at.returns c).In-Some) _ (λ h. deque_parents _ _ c.in-Some.ensures h) c.pack_deques.ensures _ c.deque_list_in-stop.ensures.run_value))) in record { value = both.0; report_value = rw (← pairs_values_lem) both.1 }

@@ -28,10 +28,7 @@ pub slice_bounds-table-end-2 : goal.slice_bounds-table-end-2
 slice_bounds-table-end-2 c =
     sym (length-take-le c.args.run.length c.args.run.table (table_inside _ (passed (goal.at.slice_bounds-table-end-2 c).In-Some)))
 
-pub report_of-report-requires : goal.report_of-report-requires
-report_of-report-requires c = run_small _ _ _ _ _ _ c.run_in-stop.ensures.run_value
-
 pub returns : goal.returns
 returns c =
-    ran_as (c.report_of-report.ensures ∙ report_is _ _ c.run_in-stop.ensures.nonzero) c.unpack-after.ensures
+    ran_as (c.report_of-report.ensures ∙ report_is _ _ c.run_in-stop.ensures.nonzero (run_small _ _ _ _ _ _ c.run_in-stop.ensures.run_value)) c.unpack-after.ensures
     (run_taken _ (passed (goal.at.returns c).In-Some) _ (λ h. test_parents _ _ c.in-Some.ensures h) c.pack.ensures _ _ _ _ c.run_in-stop.ensures.run_value)

@@ -1,18 +1,17 @@
--- `quota::cost` meets its contract: each factor is small, and so are the products.
-use Prim.Native.Nat.{◌-◌, ◌≤◌}
+-- `quota::cost` meets its contract: each factor has the range of its type, and so the products are below 2^56.
+use Prim.Native.Nat.{ℕ, ◌*◌, ◌≤◌}
 use native.Mathlib.Nat.{mul-le-mul}
 use native.Mathlib.Omega.{arith}
-use Rattle.quota.proofs.cost.Goals.{Start}
 use Rattle.quota.proofs.cost.Goals as goal
 
-workers : (c : Start) → c.args.p - 1 ≤ 15
-workers c = omega (arith, c.requires.few_workers)
-
-depths : (c : Start) → c.args.depth - 1 ≤ 65535
-depths c = omega (arith, c.well_formed)
+once : (b p : ℕ) → b ≤ 4294967295 → p ≤ 255 → b * p ≤ 4294967295 * 255
+once b p g w = mul-le-mul g w
 
 pub overflow_mul-result : goal.overflow_mul-result
-overflow_mul-result c = record { fits = omega (arith, mul-le-mul c.requires.small_gap (workers (goal.at.overflow_mul-result c).Start)) }
+overflow_mul-result c = record { fits = omega (arith, once c.args.b c.saturating_sub.result (omega arith) (omega arith)) }
 
 pub overflow_mul-result-2 : goal.overflow_mul-result-2
-overflow_mul-result-2 c = record { fits = omega (arith, mul-le-mul (mul-le-mul c.requires.small_gap (workers (goal.at.overflow_mul-result-2 c).Start)) (depths (goal.at.overflow_mul-result-2 c).Start)) }
+overflow_mul-result-2 c =
+    let e = once c.args.b c.saturating_sub.result (omega arith) (omega arith) in
+    let d : c.saturating_sub-2.result ≤ 65535 = omega arith in
+    record { fits = omega (arith, mul-le-mul e d) }

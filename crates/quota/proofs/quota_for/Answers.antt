@@ -41,13 +41,6 @@ returns-then-memory-peak c =
     ap Err c.new-then-memory-peak.ensures
     ∙ little_memory _ _ _ _ (workers_in_lem (goal.at.returns-then-memory-peak c).Else-outside) (gap_in_lem (goal.at.returns-then-memory-peak c).Else-outside-2) (omega (arith, peak_is c.requires, c.if-memory-peak.true))
 
-pub cost-requires : goal.cost-requires
-cost-requires c =
-    let w = inside 1 16 _ (workers_in_lem (goal.at.cost-requires c).Else-outside) in
-    let g = inside 1 65535 _ (gap_in_lem (goal.at.cost-requires c).Else-outside-2) in
-    let a = c.requires in
-    record { some_worker = w.0; few_workers = w.1; small_gap = g.1; some_depth = omega (arith, depth_is a, depth_some _ a.rules) }
-
 pub returns-then-most-least_quota : goal.returns-then-most-least_quota
 returns-then-most-least_quota c =
     ap Err c.new-then-most-least_quota.ensures
