@@ -1,0 +1,7 @@
+-- The form lies within its buffer.
+use Rattle.std.proofs.Common.{sym}
+use Rattle.canonical.proofs.FormPut.{formed_within}
+use Rattle.canontable.proofs.main.Goals as goal
+
+pub write_answer_or_line-requires-clause-within : goal.write_answer_or_line-requires-clause-within
+write_answer_or_line-requires-clause-within c = λ text out k left made. formed_within _ _ _ _ (sym made.0) made.1.1
