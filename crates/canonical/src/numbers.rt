@@ -72,7 +72,13 @@ fn fill_sizes(table: &[u8], n: usize, actions: &[u8], sizes: &mut [u16; 1024])
 
 // One action: a forked child gets the next number.
 #[tactic(auto, unfolding(table::specs::Format::is, table::specs::Format::code_of))]
-fn number_step(kind: Kind, x: usize, next: usize, sizes: &[u16; 1024], new: &mut [u16; 1024]) -> usize
+fn number_step(
+    kind: Kind,
+    x: usize,
+    next: usize,
+    sizes: &[u16; 1024],
+    new: &mut [u16; 1024],
+) -> usize
     requires { (length sizes.now ≡ 1024) × (length new.old ≡ 1024) × (next < 2 ^ 40) }
     ensures { NumberStepped sizes.now kind x (numbered new.old next) (numbered new.new result) }
 {

@@ -6,11 +6,10 @@
 ghost use Rattle.std.specs.Prelude.{◌<◌};
 ghost use Rattle.io.specs.Counts.{IsPrefixLen};
 
-use table::Facts;
-use table::Refusal;
 use std::io;
 use std::io::Write;
 use streams::read_full;
+use table::{Facts, Refusal};
 
 fn wide(x: u8) -> usize
     ensures { result < 256 }
