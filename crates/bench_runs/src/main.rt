@@ -60,9 +60,7 @@ fn turn_once(run: Run, total: u64) -> u64 {
     let turned = asyncdf::turn(run, w);
     let answer = turned.answer;
     match answer {
-        Ok(taken) => {
-            std::num::wrapping_add_u64(reply_value(taken.reply), taken.passed as u64)
-        }
+        Ok(taken) => { std::num::wrapping_add_u64(reply_value(taken.reply), taken.passed as u64) }
         Err(refusal) => refusal.number as u64,
     }
 }

@@ -22,7 +22,7 @@ use Rattle.schedule.specs.Sound.{Steady, sound}
 use Rattle.schedule.proofs.Stores.{steady_lawful}
 use Rattle.schedule.proofs.Sound.Sharing.{shares_size}
 use Rattle.schedule.proofs.Sound.Tests.{sound_exactly}
-use Rattle.soundness.specs.Tested.{parents_if, tested}
+use Rattle.soundness.specs.Tested.{parents_if}
 use Rattle.soundness.proofs.Passed.{has_workers, no_workers}
 use Rattle.run_memory.specs.Memory.{Memory}
 use Rattle.run_memory.specs.Stands.{workers_in}
@@ -118,15 +118,14 @@ passed_rows r e = go (ℕ_discrete r.workers 0)
     go (yes z) = subst Rows (sym (no_workers r e z)) blank_rows
     go (no d) = steady_rows r (has_workers r e (omega (arith, d))).steady
 
-parents_full : (r : Run) → Full (tested r).parents
-unfolding tested
+parents_full : (r : Run) → Full (parents_if (sound r) (table_in r))
 parents_full r = go (sound r) refl
   where
     go : (q : Bool) → sound r ≡ q → Full (parents_if q (table_in r))
     go true e = full_parents (table_in r) (steady_lawful r ((sound_exactly r).0 e).steady).few_threads
     go false e = same 0
 
-pub packed_shaped : (r : Run) → unsound r ≡ false → Shaped (memory_for r (tested r).parents)
+pub packed_shaped : (r : Run) → unsound r ≡ false → Shaped (memory_for r (parents_if (sound r) (table_in r)))
 packed_shaped r e =
     let a : Rows r = passed_rows r e in
     let l = filled_long max_threads r.status r.right r.leftmost no_thread no_links (same no_thread, same no_thread) in

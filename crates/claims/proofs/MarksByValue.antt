@@ -22,7 +22,8 @@ use Rattle.filling.specs.Filled.{filled_out}
 use Rattle.schedule.specs.declared.Run.{Run}
 use Rattle.schedule.specs.declared.Begun.{Begun}
 use Rattle.schedule.specs.Begin.{begin, start_state}
-use Rattle.schedule.specs.Record.{bytes_of}
+use Rattle.schedule.specs.Record.{bytes_of, table_in}
+use Rattle.schedule.specs.Sound.{sound}
 use Rattle.schedule.specs.Memory.{replies}
 use Rattle.schedule.specs.Most.{not_idle}
 use Rattle.schedule.specs.Turn.{unsound}
@@ -31,7 +32,7 @@ use Rattle.bounds.proofs.Limit.{MemoryLimit}
 use Rattle.bounds.proofs.ThreadLimit.{ThreadLimit}
 use Rattle.bounds.proofs.PeakLimit.{PeakLimit, UsefulLimit}
 use Rattle.sharp.proofs.QuotaLimit.{EveryOrder}
-use Rattle.soundness.specs.Tested.{tested}
+use Rattle.soundness.specs.Tested.{parents_if}
 use Rattle.run_memory.specs.Packing.{memory_for}
 use Rattle.marks.specs.Marks.{Marked, marked, unmarked, mark_of, is_set, bad_marked, set_checks, back_checks, MarkValues, mark_values, set_values, back_values, set_as, back_as, MarkCall, moving, setting, going, Led, led_by, nowhere, turns_by}
 use Rattle.marks.proofs.Marked.{Follows, mark_follows, unmarked_follows}
@@ -177,9 +178,9 @@ after_shaped : (r : Run) (i : ℕ) (K : Marks) → MarksShaped K → MarksShaped
 unfolding marks_after
 after_shaped r i K k = go (unsound r) refl
   where
-    go : (q : Bool) → unsound r ≡ q → MarksShaped (pick q K (lent_mark (bytes_of r) i (memory_for r (tested r).parents) K).marks)
+    go : (q : Bool) → unsound r ≡ q → MarksShaped (pick q K (lent_mark (bytes_of r) i (memory_for r (parents_if (sound r) (table_in r))) K).marks)
     go true e = k
-    go false e = mark_shaped (bytes_of r) i (memory_for r (tested r).parents) K (packed_shaped r e) k
+    go false e = mark_shaped (bytes_of r) i (memory_for r (parents_if (sound r) (table_in r))) K (packed_shaped r e) k
 
 abbrev mark_refs : Marks → MarkRefs
 mark_refs K =

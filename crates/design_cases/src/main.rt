@@ -8,7 +8,6 @@ ghost use Rattle.io.specs.Counts.{IsPrefixLen};
 
 use table::Facts;
 use table::Refusal;
-use joining::Joined;
 use std::io;
 use std::io::Write;
 use streams::read_full;
@@ -90,7 +89,7 @@ fn join_answer(rt: &HostRuntime, buffer: &mut [u8]) -> io::Result<()> {
     let mut table = [0u8; 36868];
     let answer = joining::join_given(&buffer[..n], &mut table);
     let size = joining::joined_size(answer);
-    if let Joined::Written(facts) = answer {
+    if let Ok(facts) = answer {
         facts_answer(rt, Ok(facts))?;
         table_answer(rt, &table[..size])?;
     }

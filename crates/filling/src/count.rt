@@ -10,7 +10,7 @@ use table::kinds::Kind;
 use table::{Refusal, read};
 
 // What action a allocates.
-pub fn amount(table: &[u8], n: usize, a: usize) -> usize
+pub(crate) fn amount(table: &[u8], n: usize, a: usize) -> usize
     requires { n ≡ (table_of table.now).threads }
     ensures { Read (alloc_of (table_of table.now) a) 16777216 result }
 {
@@ -36,7 +36,7 @@ pub(crate) fn dummies_of(x: usize, quota: usize) -> usize
 }
 
 // What an alloc of x adds: threads, and actions.
-pub fn new_threads(x: usize, quota: usize) -> usize
+pub(crate) fn new_threads(x: usize, quota: usize) -> usize
     requires x_bound { x < 16777216 }
     requires quota_bound { quota < 4294967296 }
     ensures { Read (pick (ltb quota x) (2 * ((x + quota - 1) / quota) - 1) 0) 33554432 result }

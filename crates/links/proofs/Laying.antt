@@ -44,9 +44,6 @@ firsts_set f k u x =
 
 -- ---- a thread and its neighbours in a row
 
-pub first_there : (l : List ℕ) (i : ℕ) → i < length l → get_or l i 0 ≡ head_of (drop i l)
-first_there l i h = rw (drop-cons l i 0 h)
-
 pub left_first : (l : List ℕ) (i : ℕ) → i ≡ 0 → no_thread ≡ left_there l i
 unfolding left_there
 left_first l i e = rw (eq-eqb i 0 e)

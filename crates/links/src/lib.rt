@@ -54,7 +54,7 @@ fn clear(links: &mut [u16; 1024])
     *links = [NO_THREAD; 1024];
 }
 
-// The thread at place i of a row; NO_THREAD past its end.
+// The thread at place i of a row; NO_THREAD past its end, as a number: so it stands in the links that C lends.
 fn thread_at(row: &[u16], i: usize) -> u16
     ensures { result ≡ head_of (drop i row.now) }
 {

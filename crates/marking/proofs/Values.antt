@@ -14,12 +14,12 @@ use Rattle.table.specs.Pass.{refusal, try_at}
 use Rattle.order.specs.Words.{filled, same_list}
 use Rattle.schedule.specs.declared.Worker.{Worker}
 use Rattle.schedule.specs.declared.Run.{Run}
-use Rattle.schedule.specs.Record.{max_bytes, blank, bytes_of, links_in}
+use Rattle.schedule.specs.Record.{table_in, max_bytes, blank, bytes_of, links_in}
 use Rattle.schedule.specs.Turn.{unsound}
-use Rattle.schedule.specs.Sound.{Steady}
+use Rattle.schedule.specs.Sound.{sound, Steady}
 use Rattle.schedule.proofs.Stores.{steady_fits}
 use Rattle.schedule.proofs.Sound.Tests.{blank_exactly}
-use Rattle.soundness.specs.Tested.{blank_on, tested}
+use Rattle.soundness.specs.Tested.{blank_on, tested, parents_if}
 use Rattle.soundness.proofs.Passed.{has_workers, no_workers}
 use Rattle.soundness.proofs.Chains.{second_of, never}
 use Rattle.soundness.proofs.OnParts.{blank_is}

@@ -2,13 +2,13 @@
 #![tactic(auto)]
 
 ghost use Rattle.std.specs.Prelude.{◌≡◌, suc, ◌+◌, ◌-◌, ◌*◌, ◌/◌, ◌≤◌, ◌<◌, ltb, leb, ◌||◌};
+ghost use Rattle.table.specs.Checks.{alloc_of};
 ghost use Rattle.table.specs.Format.{is, table_of};
 ghost use Rattle.table.specs.declared.kinds.Kind.TheVariants.{Fork as fork, Join as join};
 ghost use Rattle.table.specs.Sum.{pick, sum_to, Read};
 ghost use Rattle.filling.specs.Filled.{new_threads};
 ghost use Rattle.origin.specs.Origin.{bigs_to, bodies_to, put_in, origin_in};
 
-use filling::count::{amount, new_threads};
 use table::kinds::Kind;
 use table::{outside, read};
 
@@ -20,6 +20,29 @@ const NONE: u32 = 65535;
 struct Counted {
     bigs: usize,
     threads: usize,
+}
+
+// What action a allocates. `filling` has this too, and the function after it: with a condition on their arguments, neither is public there.
+fn amount(table: &[u8], n: usize, a: usize) -> usize
+    requires { n ≡ (table_of table.now).threads }
+    ensures { Read (alloc_of (table_of table.now) a) 16777216 result }
+{
+    match read::kind(table, n, a) {
+        Kind::Alloc => read::argument(table, n, a),
+        _ => 0,
+    }
+}
+
+// The threads that an alloc of x brings.
+fn new_threads(x: usize, quota: usize) -> usize
+    requires x_bound { x < 16777216 }
+    requires le_quota { (1 ≤ quota) × (quota < 16777216) }
+    ensures { Read (pick (ltb quota x) (2 * ((x + quota - 1) / quota) - 1) 0) 67108864 result }
+{
+    if x <= quota {
+        return 0;
+    }
+    2 * ((x + quota - 1) / quota) - 1
 }
 
 // 1 for an alloc of x above the quota.

@@ -56,7 +56,9 @@ lets_found_lem : (P : Pace) (w : ℕ) → try_at (lets_checks P w) 0 ≡ lets_fo
 unfolding try_at may_number
 lets_found_lem P w = go (ltb w (workers_in P.numbers)) (may P.numbers w)
   where
-    go : (b c : Bool) → pick (not b) (Err (refusal 30 0)) (pick (not c) (Err (refusal 60 0)) (Ok tt)) ≡ pick (eqb (pick b (pick c 0 60) 30) 0) (Ok tt) (Err (refusal (pick b (pick c 0 60) 30) 0))
+    go : (b c : Bool)
+        → ◌≡◌ {A = Result ⊤ Refusal} (pick (not b) (Err (refusal 30 0)) (pick (not c) (Err (refusal 60 0)) (Ok tt)))
+        (pick (eqb (pick b (pick c 0 60) 30) 0) (Ok tt) (Err (refusal (pick b (pick c 0 60) 30) 0)))
     go true true = refl
     go true false = refl
     go false c = refl

@@ -24,7 +24,7 @@ pub fn truths_right(holds: &[u8; 16]) -> bool
     true
 }
 
-// The record of worker k.
+// The record of worker k. By index, here and below: three arrays that C lends are read at one place.
 fn worker_at(holds: &[u8; 16], threads: &[u16; 16], quotas: &[u32; 16], k: usize) -> Worker
     requires { k < 16 }
     ensures { result ≡ worker_from holds.now threads.now quotas.now k }

@@ -1,5 +1,5 @@
 // A turn of document 01's machine on the lent memory of a run, whatever it holds: no call traps, and what a turn leaves equals a definition (specs/Memory). The memory is four blocks, one for
-// each width of numbers (specs/Blocks), and a turn writes into them alone.
+// each width of numbers (specs/Blocks), and a turn writes into them alone. They go as four arguments, as C lends them.
 #![tactic(auto)]
 
 ghost use Rattle.std.specs.Prelude.{◌≡◌, ℕ, ◌&&◌, get_or, eqb, Err};

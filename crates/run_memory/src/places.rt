@@ -180,7 +180,7 @@ pub fn put_total(sums: &mut [u64; 1027], i: usize, x: u64)
     put_total_in(sums, i, x);
 }
 
-// The same of parts whose length is known.
+// The same of parts whose length is known. One for each width, since each writes by a definition of its own.
 fn put_head_in(words: &mut [u16], h: usize, x: u16)
     requires { length words.old ≡ 6163 }
     ensures { words_in words.new ≡ headed h x (words_in words.old) }

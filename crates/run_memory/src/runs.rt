@@ -61,7 +61,8 @@ pub fn ends_root(table: &[u8], thread: u16, action: u16) -> bool
     code(table, threads(table), action as usize) == END
 }
 
-// The worker whose turn comes after i turns: from the order, or in rounds the one that is next.
+// The worker whose turn comes after i turns: from the order, or in rounds the one that is next. The order and the rounds as data: a closure would carry the worker that is next from turn to turn,
+// with a clause on it, for one `if`.
 fn worker_of(order: &[u8], rounds: bool, next: u32, i: usize) -> u32
     ensures { result ≡ pick rounds next (get_or order.now i 0) }
 {

@@ -68,7 +68,7 @@ pub struct Turned {
     pub run: Run,
 }
 
-// A run over a list or in rounds: finished at the root's end, spent at the end of the list or of the limit, or stopped by a refusal; each with the turns taken.
+// A run over a list or in rounds, three ends with the turns of each: finished at the root's end, spent at the end of the list or of the limit, or stopped by a refusal; each with the turns taken.
 #[derive(Drop)]
 pub enum Report {
     Finished(u64),

@@ -9,10 +9,8 @@ ghost use Rattle.stealing.specs.Code.{stolen_on};
 use array_machine::fits::{alloc_fits, fork_fits, free_fits, join_fits, next_fits};
 use run_memory::places::{HELD, NEXT, amount_at, row_at, status_at, total_at};
 use schedule::statuses::ENDED;
-use table::kinds::{ALLOC, FORK, FREE, JOIN};
+use table::kinds::Kind;
 use table::read::action_in;
-
-const WORK: u8 = 1;
 
 // A join of thread x waits, or the sum that it makes has its room.
 fn join_goes(a: u16, x: usize, own: u64, bytes: &[u8; 1040], sums: &[u64; 1027]) -> bool
@@ -43,22 +41,14 @@ pub(crate) fn action_fits(
     let a = row_at(words, NEXT, b);
     let action = action_in(actions, a as usize);
     let x = action.argument;
-    if action.code == WORK {
-        return next_fits(a);
-    }
-    if action.code == FORK {
-        return fork_fits(a, x);
-    }
     let own = amount_at(sums, b);
-    if action.code == JOIN {
-        return join_goes(a, x, own, bytes, sums);
+    match action.kind() {
+        Kind::Work => next_fits(a),
+        Kind::Alloc => alloc_fits(a, total_at(sums, HELD), own, x as u64),
+        Kind::Free => free_fits(a, total_at(sums, HELD), own, x as u64),
+        Kind::Fork => fork_fits(a, x),
+        Kind::Join => join_goes(a, x, own, bytes, sums),
+        Kind::End => true,
+        Kind::Unknown => true,
     }
-    let all = total_at(sums, HELD);
-    if action.code == ALLOC {
-        return alloc_fits(a, all, own, x as u64);
-    }
-    if action.code == FREE {
-        return free_fits(a, all, own, x as u64);
-    }
-    true
 }

@@ -10,7 +10,7 @@ use run_memory::places::{TURNS, total_at};
 use run_memory::runs::{Stop, over, refused, root_ended};
 use table::read::byte;
 
-// The turns of a list, a pair of bytes each.
+// The turns of a list, a pair of bytes each. By index: the pairs are those of a definition that reads by place.
 fn drive(
     table: &[u8],
     order: &[u8],

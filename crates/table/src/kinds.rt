@@ -1,7 +1,6 @@
 // "Kinds: 0 end, 1 work ..; 2 alloc, 3 free ..; 4 fork, 5 join ..".
 ghost use Rattle.std.specs.Prelude.{◌≡◌};
-ghost use Rattle.table.specs.Format.{kind_of, code_of, own_amount};
-ghost use Rattle.table.specs.declared.kinds.Kind.TheVariants.{Alloc as alloc, Free as free};
+ghost use Rattle.table.specs.Format.{kind_of, code_of};
 
 // What an action is, by the code of 8 bits that a table has for it.
 #[derive(Clone, Copy, PartialEq, Eq, Debug)]
@@ -61,16 +60,3 @@ pub const FREE: u8 = 3;
 pub const FORK: u8 = 4;
 
 pub const JOIN: u8 = 5;
-
-// An action's alloc, and its free: the argument, and 0 for any other kind.
-pub fn alloc_of(k: u8, x: usize) -> u64
-    ensures { result ≡ own_amount alloc (kind_of k) x }
-{
-    if k == ALLOC { x as u64 } else { 0 }
-}
-
-pub fn free_of(k: u8, x: usize) -> u64
-    ensures { result ≡ own_amount free (kind_of k) x }
-{
-    if k == FREE { x as u64 } else { 0 }
-}

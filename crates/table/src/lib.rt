@@ -5,7 +5,7 @@ pub mod front;
 pub mod kinds;
 pub mod read;
 
-ghost use Rattle.std.specs.Prelude.{◌≡◌, max, min};
+ghost use Rattle.std.specs.Prelude.{◌≡◌};
 ghost use Rattle.table.specs.Checks.{outside as is_outside};
 ghost use Rattle.table.specs.Pass.{refusal};
 
@@ -39,18 +39,4 @@ pub fn outside(low: usize, high: usize, x: usize) -> bool
     ensures { result ≡ is_outside low high x }
 {
     !(low..=high).contains(&x)
-}
-
-// The larger of two amounts.
-pub fn larger(a: u64, b: u64) -> u64
-    ensures { result ≡ max a b }
-{
-    if a < b { b } else { a }
-}
-
-// The lesser of two counts.
-pub fn lesser(a: usize, b: usize) -> usize
-    ensures { result ≡ min a b }
-{
-    if a < b { a } else { b }
 }

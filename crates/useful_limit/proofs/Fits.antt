@@ -137,7 +137,7 @@ module _ (T : Table) (p b M : ℕ) (r : InRange T (least_quota T)) where
 
 -- ---- the answer to any bytes
 
-ok_inj : {x y : Fitted} → Ok {E = Refusal} x ≡ Ok y → x ≡ y
+ok_inj : {x y : Fitted} → ◌≡◌ {A = Result Fitted Refusal} (Ok x) (Ok y) → x ≡ y
 ok_inj h = cc
 
 fitted_fits : (f : Result ⊤ Refusal) (x : Fitted) (K X : ℕ) → (fitted_as f x ≡ Ok (Fits K X)) ↔ ((f ≡ Ok tt) × (x ≡ Fits K X))

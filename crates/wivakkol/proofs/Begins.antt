@@ -10,9 +10,8 @@ use mathlib.Core.List.{List, [], ◌∷◌}
 use mathlib.Core.Bool.{Bool, true, false, ◌&&◌}
 use borrow.Author.Tests.{lt-ltb, le-ltb, le-leb, lt-leb}
 use lib.ListN.{replicate, set}
-use lib.Dec.{ltb, leb}
-use Rattle.table.specs.Sum.{pick}
-use Rattle.table.specs.Format.{Table, table_of}
+use lib.Dec.{leb}
+use Rattle.table.specs.Format.{table_of}
 use Rattle.table.specs.Pass.{refusal, first_found, try_at, try_from, try_pass}
 use Rattle.table.specs.Checks.{passes}
 use Rattle.table.specs.declared.Refusal.{Refusal}

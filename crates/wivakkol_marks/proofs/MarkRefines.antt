@@ -187,10 +187,10 @@ module _ (s : List ℕ) (M : Memory) (K : Marks) where
       abbrev back_found : Bool → Bool → Bool → Result ⊤ Refusal
       back_found a b c = pick a (pick b (pick c (Ok tt) (Err (refusal 46 0))) (Err (refusal 45 0))) (Err (refusal 32 0))
 
-      set_here : i < 8 → pick (not (is_set (mark_of m i))) (Err (refusal 46 0)) (Ok tt) ≡ pick (is_set_in K i) (Ok tt) (Err (refusal 46 0))
-      set_here l = ap (λ (x : Mark). pick (not (is_set x)) (Err (refusal 46 0)) (Ok tt)) (mark_here i l) ∙ go (is_set_in K i)
+      set_here : i < 8 → pick {A = Result ⊤ Refusal} (not (is_set (mark_of m i))) (Err (refusal 46 0)) (Ok tt) ≡ pick {A = Result ⊤ Refusal} (is_set_in K i) (Ok tt) (Err (refusal 46 0))
+      set_here l = ap (λ (x : Mark). pick {A = Result ⊤ Refusal} (not (is_set x)) (Err (refusal 46 0)) (Ok tt)) (mark_here i l) ∙ go (is_set_in K i)
         where
-          go : (c : Bool) → pick (not (is_set (pick c (kept (record_in s (mark_in K i))) unset))) (Err (refusal 46 0)) (Ok tt) ≡ pick c (Ok tt) (Err (refusal 46 0))
+          go : (c : Bool) → pick {A = Result ⊤ Refusal} (not (is_set (pick c (kept (record_in s (mark_in K i))) unset))) (Err (refusal 46 0)) (Ok tt) ≡ pick {A = Result ⊤ Refusal} c (Ok tt) (Err (refusal 46 0))
           go true = refl
           go false = refl
 

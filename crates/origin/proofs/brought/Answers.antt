@@ -18,7 +18,7 @@ start s K n k e h j =
     record { is_threads = e; some = h; few = j; within = omega arith; now_bigs = omega arith; few_bigs = omega arith; now_threads = omega arith; few_threads = omega arith }
 
 module _ (s : List ℕ) (K n k bigs threads a x y z : ℕ) (i : Inv s K n k bigs threads a) (h : a < k) (e : x ≡ alloc_of (table_of s) a)
-    (ey : Read (pick (ltb K x) 1 0) 2 y) (ez : Read (pick (ltb K x) (2 * ((x + K - 1) / K) - 1) 0) 33554432 z) where
+    (ey : Read (pick (ltb K x) 1 0) 2 y) (ez : Read (pick (ltb K x) (2 * ((x + K - 1) / K) - 1) 0) 67108864 z) where
   bigs_next : bigs + y ≡ bigs_to (table_of s) K (suc a)
   unfolding sum_to big
   bigs_next = omega (arith, i.now_bigs, rw e at ey.value)
@@ -57,7 +57,7 @@ pub overflow_add-bigs : goal.overflow_add-bigs
 overflow_add-bigs c = let i = c.loop-a.invariant in omega (arith, c.above-bigs.ensures.small, i.few_bigs, i.within, i.few)
 
 pub new_threads-threads-requires : goal.new_threads-threads-requires
-new_threads-threads-requires c = record { x_bound = c.amount-x.ensures.small; quota_bound = omega (arith, c.loop-a.invariant.some) }
+new_threads-threads-requires c = record { x_bound = c.amount-x.ensures.small; le_quota = c.loop-a.invariant.some }
 
 pub overflow_add-threads : goal.overflow_add-threads
 overflow_add-threads c = let i = c.loop-a.invariant in omega (arith, c.new_threads-threads.ensures.small, i.few_threads, i.within, i.few)

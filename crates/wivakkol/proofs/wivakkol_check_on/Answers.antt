@@ -1,5 +1,4 @@
 -- `wivakkol::wivakkol_check_on` meets its contract: what loading answers, case by case.
-use borrow.Author.Rules.{rules}
 use Rattle.wivakkol.proofs.Answers.{accepted_row, refused_row}
 use Rattle.wivakkol.proofs.wivakkol_check_on.Goals as goal
 

@@ -1,5 +1,4 @@
 -- `wivakkol::wivakkol_quota_on` meets its contract: what the largest quota's call answers, case by case.
-use borrow.Author.Rules.{rules}
 use Rattle.wivakkol.proofs.Answers.{given_row, no_quota_row}
 use Rattle.wivakkol.proofs.wivakkol_quota_on.Goals as goal
 

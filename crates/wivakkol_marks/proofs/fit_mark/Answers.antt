@@ -1,5 +1,4 @@
 -- `wivakkol_marks::fit_mark` meets its contract: a mark that is set is loaded and tested.
-use borrow.Author.Rules.{rules}
 use Rattle.wivakkol_marks.proofs.Marking.{mark_fits, unset_fits}
 use Rattle.wivakkol_marks.proofs.fit_mark.Goals as goal
 

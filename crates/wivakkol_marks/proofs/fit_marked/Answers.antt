@@ -1,6 +1,4 @@
 -- `wivakkol_marks::fit_marked` meets its contract: the run first, then the marks.
-use borrow.Author.Tests.{not-true, not-false}
-use borrow.Author.Rules.{rules}
 use Rattle.wivakkol_marks.proofs.Marking.{run_unfit, run_fit}
 use Rattle.wivakkol_marks.proofs.fit_marked.Goals as goal
 

@@ -1,9 +1,7 @@
-use Prim.Native.Nat.{◌-◌}
-use mathlib.Core.Bool.{not, ◌||◌}
-use native.Mathlib.Omega.{arith}
+use mathlib.Core.Bool.{not}
 use mathlib.Core.Path.{ap}
-use Rattle.order.proofs.Every.{Passed, passed_none, passed_next, passed_stop, passed_all}
-use Rattle.wivakkol_marks.specs.LentMarks.{marks_of, is_set_in, mark_in, fit_in, fit_marks}
+use Rattle.order.proofs.Every.{passed_none, passed_next, passed_stop, passed_all}
+use Rattle.wivakkol_marks.specs.LentMarks.{fit_marks}
 use Rattle.wivakkol_marks.proofs.fit_marks.Goals as goal
 
 pub loop-i-init : goal.loop-i-init

@@ -1,9 +1,7 @@
 -- `wivakkol_marks::fit_marks` meets its contract. The invariant: the marks below i are not set, or fit.
-use Prim.Native.Nat.{◌-◌}
 use mathlib.Core.Bool.{not, ◌||◌}
-use native.Mathlib.Omega.{arith}
-use Rattle.order.proofs.Every.{Passed, passed_none, passed_next, passed_stop, passed_all}
-use Rattle.wivakkol_marks.specs.LentMarks.{marks_of, is_set_in, mark_in, fit_in, fit_marks}
+use Rattle.order.proofs.Every.{Passed}
+use Rattle.wivakkol_marks.specs.LentMarks.{marks_of, is_set_in, mark_in, fit_in}
 use Rattle.wivakkol_marks.proofs.fit_marks.Given as goal
 
 abbrev pub invariant-loop-i : goal.invariant-loop-i

@@ -2,8 +2,6 @@
 use mathlib.Core.Path.{ap, ◌∙◌}
 use Prim.Native.Nat.{◌<◌}
 use native.Mathlib.Omega.{arith}
-use borrow.Author.Tests.{not-true, not-false}
-use borrow.Author.Rules.{rules}
 use Rattle.run_memory.specs.Memory.{Memory}
 use Rattle.wivakkol.specs.Opened.{lent_open}
 use Rattle.wivakkol_marks.proofs.Marking.{mark_at_lem, back_unsound, back_above, back_unset, back_done}

@@ -1,9 +1,5 @@
 -- `wivakkol_marks::set_mark` meets its contract, answer by answer.
-use mathlib.Core.Path.{◌≡◌}
 use native.Mathlib.Omega.{arith}
-use lib.ListN.{length}
-use borrow.Author.Tests.{not-true, not-false}
-use borrow.Author.Rules.{rules}
 use Rattle.wivakkol_marks.proofs.Marking.{set_unsound, set_above, set_done}
 use Rattle.wivakkol_marks.proofs.set_mark.Goals as goal
 

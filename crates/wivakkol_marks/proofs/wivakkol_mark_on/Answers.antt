@@ -1,6 +1,5 @@
 -- `wivakkol_marks::wivakkol_mark_on` meets its contract: the call, and the working memory cleared.
 use native.Mathlib.Omega.{arith}
-use lib.ListN.{length}
 use Rattle.wivakkol_marks.proofs.wivakkol_mark_on.Goals as goal
 
 pub returns : goal.returns

@@ -1,5 +1,4 @@
 -- `wivakkol::limit::wivakkol_most_on` meets its contract: what the call on the limit answers, case by case.
-use borrow.Author.Rules.{rules}
 use Rattle.wivakkol.proofs.Answers.{limit_row_lem, no_limit_row}
 use Rattle.wivakkol.proofs.limit.wivakkol_most_on.Goals as goal
 

@@ -1,5 +1,4 @@
 -- `wivakkol::runs::wivakkol_list_on` meets its contract: where the run stopped is put into the row.
-use borrow.Author.Rules.{rules}
 use Rattle.run_memory.proofs.Stopping.{stopped_answers}
 use Rattle.wivakkol.specs.Lent.{lent_list}
 use Rattle.wivakkol.proofs.runs.wivakkol_list_on.Goals as goal

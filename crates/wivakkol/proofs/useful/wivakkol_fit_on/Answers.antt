@@ -1,7 +1,6 @@
 -- `wivakkol::useful::wivakkol_fit_on` meets its contract: what the call on the quota that fits answers, case by case.
 use mathlib.Core.Path.{◌≡◌, ap, ◌∙◌}
 use Rattle.std.specs.Prelude.{Ok}
-use Rattle.useful_limit.specs.declared.Fitted.{Fitted}
 use Rattle.useful_limit.specs.declared.Fitted.TheVariants.{Fits, Short}
 use Rattle.wivakkol.proofs.UsefulRows.{fit_handed, fit_fits, fit_short, fit_refused}
 use Rattle.wivakkol.proofs.useful.wivakkol_fit_on.Goals as goal

@@ -1,5 +1,4 @@
 -- `wivakkol::useful::wivakkol_limit_on` meets its contract: what the useful limit's call answers, case by case.
-use borrow.Author.Rules.{rules}
 use Rattle.wivakkol.proofs.UsefulRows.{limit_handed, limit_given, limit_refused}
 use Rattle.wivakkol.proofs.useful.wivakkol_limit_on.Goals as goal
 

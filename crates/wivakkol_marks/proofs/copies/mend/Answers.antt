@@ -1,5 +1,4 @@
 -- `wivakkol_marks::copies::mend` meets its contract: the records are read and written back.
-use borrow.Author.Rules.{rules}
 use Rattle.run_memory.specs.Blocks.{bytes_in, words_in, numbers_in, sums_in}
 use Rattle.wivakkol_marks.proofs.Stretches.{mends}
 use Rattle.wivakkol_marks.proofs.copies.mend.Goals as goal

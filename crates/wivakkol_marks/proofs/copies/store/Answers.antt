@@ -1,5 +1,4 @@
 -- `wivakkol_marks::copies::store` meets its contract: each block is laid over the stretch of its width.
-use mathlib.Core.Path.{◌≡◌}
 use native.Mathlib.Omega.{arith}
 use Rattle.std.proofs.lemmas.Slice.{put_mid-paste}
 use Rattle.wivakkol_marks.proofs.Stretches.{stores}

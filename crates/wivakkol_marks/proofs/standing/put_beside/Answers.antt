@@ -1,5 +1,4 @@
 -- `wivakkol_marks::standing::put_beside` meets its contract: three rows and a head.
-use borrow.Author.Rules.{rules}
 use Rattle.run_memory.specs.Blocks.{words_in}
 use Rattle.wivakkol_marks.proofs.Fits.{laid_beside}
 use Rattle.wivakkol_marks.proofs.standing.put_beside.Goals as goal
