@@ -1,13 +1,8 @@
 -- The joined table lies within its buffer.
+use Rattle.std.proofs.Common.{rules, refl}
 use Rattle.joining.proofs.JoinGiven.{given_within}
+use Rattle.joining.specs.Given.{joined_given}
 use Rattle.jointables.proofs.main.Goals as goal
 
-pub slice_bounds-bytes-end : goal.slice_bounds-bytes-end
-slice_bounds-bytes-end c =
-    let a = c.join_given-answer.ensures in
-    (given_within _ _ _ _ _ a.value a.out_after c.joined_size-k.ensures).0
-
-pub slice_bounds-write_all-end : goal.slice_bounds-write_all-end
-slice_bounds-write_all-end c =
-    let a = c.join_given-answer.ensures in
-    (given_within _ _ _ _ _ a.value a.out_after c.joined_size-k.ensures).1
+pub write_answer_or_line-requires-clause-within : goal.write_answer_or_line-requires-clause-within
+write_answer_or_line-requires-clause-within c = λ text out k left made. (given_within text.now out.now (joined_given text.now) left.now k refl (search rules) (search rules)).0
