@@ -184,6 +184,11 @@ def retargeted(text):
     """A module for wasm32, which has no pages to probe below the stack, and addresses of 32 bits."""
     for line in emptied(WASM):
         text = re.sub('^%s.*$' % re.escape(line.split('"')[0]), lambda _: line, text, count=1, flags=re.M)
+    # a byte and an address: the address lies 8 bytes on in memory, as for x86-64, and not 4
+    text = re.sub(r'(= extractvalue \{ i8), (ptr \} [^,]+), 1$', r'\1, [7 x i8], \2, 2', text, flags=re.M).replace('{ i8, ptr }', '{ i8, [7 x i8], ptr }')
+    for kind in re.findall(r'\{ [^{}@%]*\bptr\b[^{}@%]* \}', text):
+        if kind not in ('{ ptr, i64 }', '{ i8, [7 x i8], ptr }'):
+            raise Wrong('the module has values of %s, whose parts lie elsewhere in memory for wasm32' % kind)
     # an address is 32 bits wide there: what the module has in 64 is its number, extended
     text = re.sub(r'\bptrtoaddr (ptr \S+) to i64', r'ptrtoint \1 to i64', text)
     return re.sub(' "(target-cpu|probe-stack|stack-probe-size)"="[^"]*"', '', text)
