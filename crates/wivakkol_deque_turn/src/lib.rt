@@ -3,12 +3,21 @@
 #![tactic(auto)]
 
 ghost use Rattle.std.specs.Prelude.{◌≡◌};
-ghost use Rattle.run_memory.specs.Memory.{answer};
+ghost use Rattle.run_memory.specs.Memory.{answer, reply_row};
 ghost use Rattle.run_memory.specs.Blocks.{memory_of};
 ghost use Rattle.wivakkol_deques.specs.DequeLent.{lent_deque_turn};
 
 use run_memory::replies::put_reply;
+use schedule::Reply;
 use stealing::deque_turn_in;
+
+// The row of a reply; not put into the turn, whose frame is 16 bytes smaller so.
+#[inline(never)]
+fn tell(row: &mut [u64; 5], reply: Reply)
+    ensures { row.new ≡ reply_row reply 0 }
+{
+    put_reply(row, reply, 0);
+}
 
 // A turn of worker w with choice c. Every number of the row is written; the last, which AsyncDF has of N7, stays 0.
 pub fn wivakkol_deque_turn_on(
@@ -26,7 +35,7 @@ pub fn wivakkol_deque_turn_on(
 {
     match deque_turn_in(table, w, c, bytes, words, numbers, sums) {
         Ok(reply) => {
-            put_reply(row, reply, 0);
+            tell(row, reply);
             0
         }
         Err(number) => {

@@ -22,7 +22,7 @@ module _ (s : List ℕ) (w c : ℕ) (M : Memory) {y : Told} (e : y ≡ deque_tur
 pub returns-in-Ok : goal.returns-in-Ok
 returns-in-Ok c =
     let a = c.args in
-    tells a.table.now a.w a.c (memory_of a.bytes.now a.words.now a.numbers.now a.sums.now) c.in-Ok.ensures.turn_value refl c.put_reply.ensures
+    tells a.table.now a.w a.c (memory_of a.bytes.now a.words.now a.numbers.now a.sums.now) c.in-Ok.ensures.turn_value refl c.tell.ensures
 
 pub returns-in-Err : goal.returns-in-Err
 returns-in-Err c =
