@@ -35,7 +35,7 @@ RENEW = '`make dist` renews it'
 WASM = 'wasm32-unknown-unknown'
 FLAGS = ['-O3', '-ffunction-sections', '-fdata-sections', '-mllvm', '-trap-unreachable', '-mllvm', '-no-trap-after-noreturn', '-mllvm', '-expand-div-rem-bits=64',
          '-mllvm', '-disable-machine-licm', '-mllvm', '-disable-postra-machine-licm', '-mllvm', '-sink-common-insts=false', '-Wno-override-module']
-WASM_STACK = 262144
+WASM_STACK = 261120  # with the constants four pages
 
 
 class Wrong(Exception):

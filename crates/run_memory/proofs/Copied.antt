@@ -1,7 +1,7 @@
 -- A copy of n numbers to a place of a block: how a loop goes on with it, and what stands in the block afterwards.
 use mathlib.Core.Path.{◌≡◌, refl, sym, ap, ◌∙◌}
 use mathlib.Core.Logic.{◌⊎◌, inl, inr, ◌≢◌}
-use Prim.Native.Nat.{ℕ, zero, suc, ◌+◌, ◌*◌, ◌≤◌, ◌<◌}
+use Prim.Native.Nat.{ℕ, zero, suc, ◌+◌, ◌*◌, ◌≤◌, ◌<◌, min}
 use native.Mathlib.Nat.{add-zero}
 use native.Mathlib.Omega.{arith}
 use native.Mathlib.Decide.{dec_lt}
@@ -56,6 +56,12 @@ pub paste_whole : (d s : List ℕ) (n : ℕ) → length d ≡ n → paste d 0 s 
 paste_whole d s n e =
     let q : length d ≤ 0 + n = omega (arith, e) in
     ap (λ (r : List ℕ). take n s ++ r) (drop_of_length-le d q) ∙ append-nil (take n s)
+
+-- all of a list of the same length
+pub front_whole : (d s : List ℕ) → length d ≡ length s → paste d 0 s (min (length d) (length s)) ≡ s
+front_whole d s e =
+    let m : min (length d) (length s) ≡ length d = omega (arith, e) in
+    ap (paste d 0 s) m ∙ paste_whole d s (length d) refl ∙ take_all (length d) s (omega (arith, e))
 
 module _ (d : List ℕ) (at : ℕ) (s : List ℕ) where
   pub part_paste : (n : ℕ) → at + n ≤ length d → n ≤ length s → part at n (paste d at s n) ≡ take n s

@@ -1,5 +1,5 @@
 // Whole rows copied into the four blocks and out of them, for a run record that goes by value.
-ghost use Rattle.std.specs.Prelude.{◌≡◌, ◌+◌, ◌≤◌, length, drop, ltb};
+ghost use Rattle.std.specs.Prelude.{◌≡◌, ◌+◌, ◌≤◌, length, drop, ltb, min};
 ghost use Rattle.std.proofs.Math.Seq.{paste};
 ghost use Rattle.table.specs.Sum.{pick};
 ghost use Rattle.run_memory.specs.Blocks.{bytes_in, words_in, numbers_in, sums_in};
@@ -9,6 +9,16 @@ ghost use Rattle.run_memory.specs.Places.{statuses, laid_row, worker_bytes, work
 use crate::act::as_number;
 use crate::places::worker_at;
 use schedule::Worker;
+
+// As many numbers as both have, from the front of the one to the front of the other. By index: the library's copy_from_slice is a call of memmove, which who links an archive would need besides, and
+// whose first call takes stack.
+pub fn copy_front<T: Copy>(from: &[T], to: &mut [T])
+    ensures { to.new ≡ paste to.old 0 from.now (min (length to.old) (length from.now)) }
+{
+    for i in 0..to.len().min(from.len()) {
+        to[i] = from[i];
+    }
+}
 
 // Row k of the words is this; nothing where there is no such row.
 pub fn copy_row(words: &mut [u16; 6163], k: usize, from: &[u16; 1024])
@@ -85,7 +95,7 @@ fn copy<T: Copy>(from: &[T], start: usize, to: &mut [T], at: usize, n: usize)
     requires n_in_bounds_2 { at + n ≤ length to.old }
     ensures { to.new ≡ paste to.old at (drop start from.now) n }
 {
-    to[at..at + n].copy_from_slice(&from[start..start + n]);
+    copy_front(&from[start..start + n], &mut to[at..at + n]);
 }
 
 // The workers' records, on blocks whose lengths are known.

@@ -3,7 +3,7 @@ ghost use Rattle.std.specs.Prelude.{◌≡◌, ◌<◌, length, set};
 ghost use Rattle.run_memory.specs.Blocks.{memory_of};
 ghost use Rattle.wivakkol_marks.specs.LentMarks.{memory_at, row_from, mended};
 
-use run_memory::copies::{copy_workers, workers_out};
+use run_memory::copies::{copy_front, copy_workers, workers_out};
 
 // The workers' records written as a call writes them.
 fn mend(
@@ -35,10 +35,10 @@ pub(crate) fn load(
     ensures { memory_of bytes.new words.new numbers.new sums.new
         ≡ mended (memory_at markbytes.now markwords.now marknumbers.now marksums.now i) }
 {
-    bytes.copy_from_slice(&markbytes[1040 * i..1040 * i + 1040]);
-    words.copy_from_slice(&markwords[6163 * i..6163 * i + 6163]);
-    numbers.copy_from_slice(&marknumbers[18 * i..18 * i + 18]);
-    sums.copy_from_slice(&marksums[1027 * i..1027 * i + 1027]);
+    copy_front(&markbytes[1040 * i..1040 * i + 1040], bytes);
+    copy_front(&markwords[6163 * i..6163 * i + 6163], words);
+    copy_front(&marknumbers[18 * i..18 * i + 18], numbers);
+    copy_front(&marksums[1027 * i..1027 * i + 1027], sums);
     mend(bytes, words, numbers, &*sums);
 }
 
@@ -67,8 +67,8 @@ pub(crate) fn store(
         ≡ set (row_from (memory_at markbytes.old markwords.old marknumbers.old marksums.old) 0 8) i
         (memory_of bytes.now words.now numbers.now sums.now) }
 {
-    markbytes[1040 * i..1040 * i + 1040].copy_from_slice(bytes);
-    markwords[6163 * i..6163 * i + 6163].copy_from_slice(words);
-    marknumbers[18 * i..18 * i + 18].copy_from_slice(numbers);
-    marksums[1027 * i..1027 * i + 1027].copy_from_slice(sums);
+    copy_front(bytes, &mut markbytes[1040 * i..1040 * i + 1040]);
+    copy_front(words, &mut markwords[6163 * i..6163 * i + 6163]);
+    copy_front(numbers, &mut marknumbers[18 * i..18 * i + 18]);
+    copy_front(sums, &mut marksums[1027 * i..1027 * i + 1027]);
 }
