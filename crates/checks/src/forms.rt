@@ -29,7 +29,7 @@ fn argument_fits(kind: Kind, own: usize, n: usize, x: usize) -> bool
     }
 }
 
-// The check that an action breaks, if it breaks one. One test after the other: one match on all kinds would be a jump through a table for every action, and a quarter slower.
+// The check that an action breaks, if it breaks one. One test after the other: one match on all kinds would be a jump through a table for every action.
 fn form_at(kind: Kind, own: usize, n: usize, x: usize, last: bool) -> Option<u8>
     ensures { result ≡ form_at kind own n x last }
 {

@@ -19,9 +19,11 @@ pub fn put_word(out: &mut [u8], at: usize, word: &[u8]) -> usize
     if out.len() - at < word.len() {
         return at;
     }
-    let end = at + word.len();
-    out[at..end].copy_from_slice(word);
-    end
+    // by index: as a whole copy a row of four bytes would be put together on the stack first, one byte at a time, and read back as one number, for which the processor waits
+    for i in 0..word.len() {
+        out[at + i] = word[i];
+    }
+    at + word.len()
 }
 
 // The same for a number in decimal.

@@ -1,17 +1,15 @@
--- `text::put_word` meets its contract.
-use mathlib.Core.Path.{◌≡◌, refl, sym, ◌∙◌}
-use Prim.Native.Nat.{ℕ, ◌+◌, ◌-◌, ◌≤◌}
+use mathlib.Core.Path.{◌≡◌, sym, ap, ◌∙◌}
+use Prim.Native.Nat.{ℕ, suc, ◌+◌, ◌≤◌}
 use mathlib.Core.List.{List}
-use borrow.Rule.Slice.PartMut.{put_mid, Post-is}
 use lib.ListN.{length}
-use Rattle.text.specs.Text.{buffer_at, placed}
-use Rattle.std.proofs.Common.{append_assoc}
+use lib.Seq.{paste, paste-zero, paste-suc, take-length}
 use native.Mathlib.Omega.{arith}
+use Rattle.text.specs.Text.{buffer_at, placed}
 use Rattle.text.proofs.Placing.{placed_fits, placed_over}
 use Rattle.text.proofs.put_word.Goals as goal
 
-put_mid_is : (s : List ℕ) (at : ℕ) (w r : List ℕ) → at + length w ≤ length s → r ≡ w → buffer_at (put_mid at (at + length w - at) s r) (at + length w) ≡ placed s at w
-put_mid_is s at w r h e = rw (placed_fits s at w h, e, Post-is at (at + length w) s (omega arith), append_assoc)
+all_put : (s : List ℕ) (at : ℕ) (w r : List ℕ) (i : ℕ) → at + length w ≤ length s → i ≡ length w → r ≡ paste s at w i → buffer_at r (at + length w) ≡ placed s at w
+all_put s at w r i h q e = rw (placed_fits s at w h, e, q, take-length w)
 
 pub returns-then-out-at : goal.returns-then-out-at
 returns-then-out-at c = let a = c.args in sym (placed_over a.out.now a.at a.word.now (omega arith))
@@ -19,5 +17,15 @@ returns-then-out-at c = let a = c.args in sym (placed_over a.out.now a.at a.word
 pub returns-then-out-at-2 : goal.returns-then-out-at-2
 returns-then-out-at-2 c = let a = c.args in sym (placed_over a.out.now a.at a.word.now (omega arith))
 
+pub loop-i-init : goal.loop-i-init
+loop-i-init c = let a = c.args in paste-zero a.out.now a.at a.word.now
+
+pub loop-i-preserved : goal.loop-i-preserved
+loop-i-preserved c =
+    let a = c.args in
+    let i = c.loop-i.i in
+    let next : suc i ≡ i + 1 = omega arith in
+    rw c.loop-i.invariant (paste-suc a.out.now a.at a.word.now i 0 (omega arith) (omega arith) ∙ ap (paste a.out.now a.at a.word.now) next)
+
 pub returns : goal.returns
-returns c = put_mid_is c.args.out.now c.args.at c.args.word.now _ (omega arith) c.copy_from_slice.ensures.after
+returns c = let a = c.args in all_put a.out.now a.at a.word.now _ c.loop-i.i (omega arith) (omega arith) c.loop-i.invariant
